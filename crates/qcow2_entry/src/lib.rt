@@ -1,0 +1,121 @@
+// Entries of L1 and L2 tables, over numbers and a cluster-sized slice alone.
+ghost use mathlib.Core.Path.{_≡_};
+ghost use Prim.Native.Nat.{_+_, _*_, _^_, _<_, _≤_};
+ghost use mathlib.Core.Bool.{not, _||_};
+ghost use lib.Dec.{eqb};
+ghost use lib.ListN.{length};
+ghost use Rattle.endian.specs.Big.{be64};
+ghost use Rattle.qcow2_spec.specs.Entries.{place, goodPlace, goodL1, goodL2, compressed, zeroMark};
+ghost use Rattle.qcow2_spec.specs.Guest.{entryWay, entryGives};
+use qcow2_spec::Found;
+use qcow2_spec::Way;
+
+// Bits 9 to 55.
+pub fn place_of(e: u64) -> u64
+    ensures { λ r. ⌜ (r ≡ place e) × (r < 72057594037927936) ⌝ }
+{
+    e / 512 % 140737488355328 * 512
+}
+
+// Whether an entry's place and bit 63 go together.
+fn good_place(e: u64, n: u64, bits: u32) -> bool
+    requires { ⌜ bits ≤ 16 ⌝ }
+    ensures { λ r. ⌜ r ≡ goodPlace (2 ^ bits) n e ⌝ }
+{
+    let p = place_of(e);
+    let top = e / 9223372036854775808;
+    if p == 0 {
+        return top == 0;
+    }
+    if power::rest(p, bits) != 0 {
+        return false;
+    }
+    if power::past(n, p, power::power(bits)) {
+        return false;
+    }
+    top == 1
+}
+
+pub fn good_l1(e: u64, n: u64, bits: u32) -> bool
+    requires { ⌜ bits ≤ 16 ⌝ }
+    ensures { λ r. ⌜ r ≡ goodL1 (2 ^ bits) n e ⌝ }
+{
+    if e % 512 != 0 {
+        return false;
+    }
+    if e / 72057594037927936 % 128 != 0 {
+        return false;
+    }
+    good_place(e, n, bits)
+}
+
+pub fn is_compressed(e: u64) -> bool
+    ensures { λ r. ⌜ r ≡ compressed e ⌝ }
+{
+    e / 4611686018427387904 % 2 == 1
+}
+
+pub fn has_mark(e: u64) -> bool
+    ensures { λ r. ⌜ r ≡ zeroMark e ⌝ }
+{
+    e % 2 == 1
+}
+
+// Whether an entry's zero mark is allowed.
+fn good_mark(e: u64, version: u32) -> bool
+    ensures { λ r. ⌜ r ≡ not (zeroMark e) || eqb version 3 ⌝ }
+{
+    if has_mark(e) {
+        return version == 3;
+    }
+    true
+}
+
+pub fn good_l2(e: u64, version: u32, n: u64, bits: u32) -> bool
+    requires { ⌜ bits ≤ 16 ⌝ }
+    ensures { λ r. ⌜ r ≡ goodL2 version (2 ^ bits) n e ⌝ }
+{
+    if is_compressed(e) {
+        return false;
+    }
+    if e % 512 / 2 != 0 {
+        return false;
+    }
+    if e / 72057594037927936 % 64 != 0 {
+        return false;
+    }
+    if good_mark(e, version) {
+        return good_place(e, n, bits);
+    }
+    false
+}
+
+// The way that ends at entry i of an L2 table, which stands at an index of an image of n bytes.
+pub fn way_in(table: &[u8], i: usize, at: usize, version: u32, n: u64, bits: u32) -> Way
+    requires { ⌜ (bits ≤ 16) × ((8 * i + 8 ≤ length (now table)) × (at + length (now table) ≤ 67108864)) ⌝ }
+    ensures { λ r. ⌜ r ≡ entryWay version (2 ^ bits) n (at + 8 * i) (be64 (now (table .entry)) (8 * i)) ⌝ }
+{
+    let e = endian::load64(table, 8 * i);
+    if is_compressed(e) {
+        return Way::Bad(13);
+    }
+    if good_l2(e, version, n, bits) {
+        return Way::Slot(at + 8 * i, e);
+    }
+    Way::Bad(12)
+}
+
+// What an entry gives for byte o of its cluster.
+pub fn gives(e: u64, o: u64) -> Found
+    requires { ⌜ o < 65536 ⌝ }
+    ensures { λ r. ⌜ r ≡ entryGives e o ⌝ }
+{
+    if has_mark(e) {
+        return Found::Zeros;
+    }
+    let p = place_of(e);
+    if p == 0 {
+        return Found::Absent;
+    }
+    Found::Host(p + o)
+}

@@ -1,0 +1,9 @@
+pub mod Header
+pub mod Entries
+pub mod Counts
+pub mod Guest
+pub mod Store
+pub mod Check
+pub mod Disk
+pub mod Series
+pub mod Opened

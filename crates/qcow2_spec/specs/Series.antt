@@ -1,0 +1,92 @@
+-- Demand 3: what holds of every series of calls. Paper 01, "The plain disk and the series". It is proved in proofs/Series.antt.
+-- Assumes nothing.
+use Prim.Native.Nat.{ℕ, _+_, _≤_, _<_}
+use mathlib.Core.Path.{_≡_}
+use mathlib.Core.Logic.{_↔_}
+use mathlib.Core.List.{List, [], _∷_}
+use lib.ListN.{length, getD}
+use Rattle.choice.specs.Pick.{each}
+use Rattle.units.specs.Plan.{planUnits, storesCount, outcome, after}
+use Rattle.units.specs.declared.Outcome.{Outcome}
+use Rattle.units.specs.declared.Outcome.the-variants.{Finished, Stopped, Refused}
+use Rattle.tally.specs.Tally.{occurrences}
+use Rattle.qcow2_spec.specs.Header.{clusterSize, clusters, diskSize}
+use Rattle.qcow2_spec.specs.Counts.{countOf}
+use Rattle.qcow2_spec.specs.Guest.{guestByte, readNumber, readInto}
+use Rattle.qcow2_spec.specs.Check.{references, check}
+use Rattle.qcow2_spec.specs.declared.Verdict.{Verdict}
+use Rattle.qcow2_spec.specs.declared.Verdict.the-variants.{Sound, Leaks, BadL1, BadL2, Shared, Short, Refused as NotChecked}
+use Rattle.qcow2_spec.specs.Disk.{Request, write, discard, repair, planOf, finished, Fed}
+
+-- sound or leaking
+unfoldable pub Healthy : Verdict → Type 0
+Healthy Sound = Unit {0}
+Healthy (Leaks m) = Unit {0}
+Healthy (BadL1 i) = ⊥
+Healthy (BadL2 i j) = ⊥
+Healthy (Shared k) = ⊥
+Healthy (Short k) = ⊥
+Healthy (NotChecked k) = ⊥
+
+-- a read of s that does not run past the size is accepted and gives the disk's bytes; a check with scratch enough says sound or leaking.
+-- The size and the number of clusters are those of the series' first image
+pub record Agrees (start s : List ℕ) (disk : ℕ → ℕ) : Type 0 where
+  pub accepted : (x len : ℕ) → x + len ≤ diskSize start → readNumber s x len ≡ 0
+  pub reads : (x : ℕ) (out : List ℕ) → x + length out ≤ diskSize start → readInto s x out ≡ each disk x (length out)
+  pub checks : (scratch : ℕ) → clusters start ≤ scratch → Healthy (check s scratch)
+
+-- a check says sound, and a stored count is 0 exactly where the cluster has no reference
+pub record Mended (start s : List ℕ) : Type 0 where
+  pub sound : (scratch : ℕ) → clusters start ≤ scratch → check s scratch ≡ Sound
+  pub free : (k : ℕ) → k < clusters start → (countOf s k ≡ 0) ↔ (occurrences k (references s) ≡ 0)
+
+-- s is mended if the call was a repair that finished
+unfoldable pub MendedBy : Request → Outcome → (start s : List ℕ) → Type 0
+MendedBy (write x d) o start s = Unit {0}
+MendedBy (discard g) o start s = Unit {0}
+MendedBy (repair n) (Refused k) start s = Unit {0}
+MendedBy (repair n) (Stopped u) start s = Unit {0}
+MendedBy (repair n) (Finished u) start s = Mended start s
+
+-- a call of a series: what it asks, and its allowance of units
+pub record Call : Type 0 where
+  pub asks : Request
+  pub allowance : ℕ
+
+-- the image that a call on s leaves
+unfoldable pub left : List ℕ → Call → List ℕ
+left s c = after (planOf s (c .asks)) (c .allowance) s
+
+-- how a call on s ends
+unfoldable pub ends : List ℕ → Call → Outcome
+ends s c = outcome (planOf s (c .asks)) (c .allowance)
+
+-- a call on s finds the plain disk `old`, and the plain disk can then be `now`
+pub record Step (start s : List ℕ) (old : ℕ → ℕ) (c : Call) (now : ℕ → ℕ) : Type 0 where
+  pub fed : Fed (ends s c) (storesCount (planUnits (planOf s (c .asks)))) (diskSize start) old (finished (clusterSize start) (c .asks) old) now
+  pub agrees : Agrees start (left s c) now
+  pub mended : MendedBy (c .asks) (ends s c) start (left s c)
+
+-- the plain disk can be chosen after each call of the series
+unfoldable pub Holds : (start s : List ℕ) (disk : ℕ → ℕ) → List Call → Type 0
+Holds start s disk [] = Unit {0}
+Holds start s disk (c ∷ cs) = (now : ℕ → ℕ) × Step start s disk c now × Holds start (left s c) now cs
+
+-- every number of the list is a byte
+abbrev pub Bytes : List ℕ → Type 0
+Bytes s = (i : ℕ) → getD s i 0 < 256
+
+unfoldable pub BytesOf : Request → Type 0
+BytesOf (write x d) = Bytes d
+BytesOf (discard g) = Unit {0}
+BytesOf (repair n) = Unit {0}
+
+unfoldable pub AllBytes : List Call → Type 0
+AllBytes [] = Unit {0}
+AllBytes (c ∷ cs) = BytesOf (c .asks) × AllBytes cs
+
+-- for every first image that is sound or leaking and every series of calls, before the first call and after each
+abbrev pub Demand3 : Type 0
+Demand3 =
+    (s : List ℕ) → Bytes s → Healthy (check s (clusters s)) → (calls : List Call) → AllBytes calls
+    → Agrees s s (guestByte s) × Holds s s (guestByte s) calls

@@ -1,0 +1,47 @@
+// The answers of the calls on a qcow2 image. The definitions are in specs/.
+
+// What a guest offset translates to.
+pub enum Found {
+    Host(u64),
+    Zeros,
+    Absent,
+    Refused(u8),
+}
+
+// The way to a guest cluster: a number; no L2 table; or the place of its L2 entry and the entry, which is good.
+pub enum Way {
+    Bad(u8),
+    NoTable,
+    Slot(usize, u64),
+}
+
+// What a check says. An L1 entry is named by its index, an L2 entry by both indices.
+pub enum Verdict {
+    Sound,
+    Leaks(usize),
+    BadL1(usize),
+    BadL2(usize, usize),
+    Shared(usize),
+    Short(usize),
+    Refused(u8),
+}
+
+// What an accepted header gives. The cluster size is 2 to the power bits; rows: the entries of the L1 table, which starts at l1;
+// span: the clusters of the refcount table, which starts at table; blocks: the refcount blocks that the image needs.
+pub struct Geometry {
+    pub version: u32,
+    pub bits: u32,
+    pub clusters: usize,
+    pub size: u64,
+    pub rows: usize,
+    pub l1: usize,
+    pub table: usize,
+    pub span: usize,
+    pub blocks: usize,
+}
+
+// A header's number, or what it gives.
+pub enum Judged {
+    Refused(u8),
+    Accepted(Geometry),
+}

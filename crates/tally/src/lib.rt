@@ -1,0 +1,70 @@
+// Counting references in a scratch of one byte for each cluster: 0, 1, or 2 for two or more; and stored counts against them.
+ghost use mathlib.Core.Path.{_≡_};
+ghost use Prim.Native.Nat.{_+_, _≤_, _<_, min};
+ghost use lib.ListN.{length, replicate};
+ghost use Rattle.choice.specs.Pick.{first};
+ghost use Rattle.tally.specs.Tally.{bumped, bumpAll, run, twice};
+
+pub mod against;
+
+// A stored count against a figure: below it, equal, or above it.
+pub enum Sign {
+    Short,
+    Even,
+    Over,
+}
+
+// What the stored counts show so far: the lowest short cluster, or the number of clusters, and how many leak.
+pub struct Counted {
+    pub low: usize,
+    pub over: usize,
+}
+
+// One reference more.
+fn more(x: u8) -> u8
+    ensures { λ r. ⌜ r ≡ min 2 (x + 1) ⌝ }
+{
+    if x < 2 { x + 1 } else { 2 }
+}
+
+// Clears the scratch.
+pub fn clear(scratch: &mut [u8])
+    ensures { λ _. ⌜ now (scratch .exit) ≡ replicate (length (now (scratch .entry))) 0 ⌝ }
+{
+    let n = scratch.len();
+    copy::zeros(scratch, 0, n);
+}
+
+// Counts one reference to cluster c.
+pub fn bump(scratch: &mut [u8], c: usize)
+    requires { ⌜ c < length (now scratch) ⌝ }
+    ensures { λ _. ⌜ now (scratch .exit) ≡ bumped (now (scratch .entry)) c ⌝ }
+{
+    scratch[c] = more(scratch[c]);
+}
+
+// Counts one reference to each of the k clusters from i on.
+pub fn bump_run(scratch: &mut [u8], i: usize, k: usize)
+    requires { ⌜ i + k ≤ length (now scratch) ⌝ }
+    ensures { λ _. ⌜ now (scratch .exit) ≡ bumpAll (run i k) (now (scratch .entry)) ⌝ }
+{
+    let mut j = 0;
+    while j < k {
+        bump(scratch, i + j);
+        j += 1;
+    }
+}
+
+// The lowest cluster with two references or more; the length where there is none.
+pub fn lowest_shared(scratch: &[u8]) -> usize
+    ensures { λ r. ⌜ r ≡ first (twice (now (scratch .entry))) 0 (length (now (scratch .entry))) ⌝ }
+{
+    let mut k = 0;
+    while k < scratch.len() {
+        if 1 < scratch[k] {
+            return k;
+        }
+        k += 1;
+    }
+    k
+}
