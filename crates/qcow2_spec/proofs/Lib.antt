@@ -1,1 +1,12 @@
-
+pub mod Numbers
+pub mod Facts
+pub mod Open
+pub mod Geo
+pub mod Kept
+pub mod Refers
+pub mod Verdicts
+pub mod Ways
+pub mod Units
+pub mod Plans
+pub mod Series
+pub mod Difference

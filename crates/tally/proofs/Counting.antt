@@ -59,7 +59,6 @@ module _ (p q : ℕ → Bool) (N : ℕ) where
       low true e w = w
       low false e w = le-antisymm (d .small) (ltb-false (c .low) N e) ∙ w
 
-
 -- what a sign tells
 module _ (x y : ℕ) where
   pub short-means : signOf x y ≡ Short → (ltb x y ≡ true) × (ltb y x ≡ false)

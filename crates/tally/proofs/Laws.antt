@@ -105,3 +105,17 @@ drop-all (x ∷ l) = drop-all l
 pub all-zeros : (l : List ℕ) → splice l 0 (replicate (length l) 0) ≡ replicate (length l) 0
 unfolding splice
 all-zeros l = let Z : List ℕ = replicate (length l) 0 in let e : 0 + length Z ≡ length l = omega (arith, length-replicate {A = ℕ} (length l) 0) in rw (e, drop-all, append-nil)
+
+-- a figure of the scratch
+pub figures-at : (rs : List ℕ) (i n j : ℕ) → j < n → getD (figures rs i n) j 0 ≡ min 2 (occurrences (i + j) rs)
+unfolding figures
+figures-at rs i zero j h = absurd (not-suc-le-zero h)
+figures-at rs i (suc n) zero h = rw add-zero
+figures-at rs i (suc n) (suc j) h =
+    figures-at rs (suc i) n j (le-of-suc-le-suc h) ∙ ap (λ (x : ℕ). min 2 (occurrences x rs)) (omega arith)
+
+pub figures-small : (rs : List ℕ) (i n j : ℕ) → getD (figures rs i n) j 0 ≤ 2
+unfolding figures
+figures-small rs i zero j = omega arith
+figures-small rs i (suc n) zero = omega arith
+figures-small rs i (suc n) (suc j) = figures-small rs (suc i) n j

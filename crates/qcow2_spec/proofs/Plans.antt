@@ -1,0 +1,455 @@
+-- Every call's list of units, cut anywhere, keeps the image sound or leaking and feeds the plain disk as the rules say. Assumes nothing.
+use Prim.Native.Nat.{ℕ, zero, suc, _+_, _-_, _*_, _/_, _%_, _≤_, _<_}
+use native.Mathlib.Nat.{suc-ne-zero, add-zero, div-lt-iff-lt-mul, mod-lt, div-add-mod', mul-le-mul-right, lt-of-mul-lt-mul-right}
+use native.Mathlib.Decide.{ℕ-discrete, decLe, decLt}
+use native.Mathlib.Omega.{arith}
+use mathlib.Core.Path.{_≡_, refl, sym, ap, _∙_, subst}
+use mathlib.Core.Logic.{_⊎_, inl, inr, _≢_}
+use mathlib.Core.Bool.{Bool, true, false, _&&_, _||_}
+use mathlib.Core.List.{List, [], append-assoc}
+use lib.Dec.{leb, ltb, eqb}
+use lib.ListN.{length, getD, take, length-take}
+use lib.Seq.{getD-take}
+use borrow.Author.Tests.{ltb-true, ltb-false, leb-true, leb-false, eqb-true, eqb-false, le-leb, lt-ltb}
+use Rattle.clusters.proofs.Cell.{mem}
+use Rattle.clusters.proofs.Meta.{cnt, l2, tab, dat, refsOf, Sound, dat-none}
+use Rattle.clusters.proofs.Step.{gread, gread-none, split-index, dat-in}
+use Rattle.clusters.proofs.Run.{Store, Run, apply, fill}
+use Rattle.clusters.proofs.Call.{Ok, Same as SameReads, Zeroed, MidZ, EndZ, discard-run, unmark-run, countStore}
+use Rattle.clusters.proofs.Write.{Wrote, MidW, EndW, MidP, place-run, marked-run, alloc-run, table-run}
+use Rattle.clusters.proofs.Repair.{MidR, Repaired, repair-run}
+use Rattle.choice.specs.Pick.{if_then_else_, first}
+use Rattle.qcow2_spec.specs.Header.{clusterSize, clusters, diskSize, l1Size, perTable, judge}
+use Rattle.qcow2_spec.specs.Entries.{place, zeroMark}
+use Rattle.qcow2_spec.specs.Counts.{countOf, freeAt, freeFrom}
+use Rattle.qcow2_spec.specs.declared.Way.{Way}
+use Rattle.qcow2_spec.specs.declared.Way.the-variants.{Bad as bad, NoTable as noTable, Slot as slot}
+use Rattle.qcow2_spec.specs.Guest.{way, outside}
+use Rattle.units.specs.Plan.{Plan, refused, units}
+use Rattle.units.specs.Units.{UnitStore, apply as applyU, applyAll, fill as fillU, cluster}
+use Rattle.qcow2_spec.specs.Entries.{newEntry}
+use Rattle.qcow2_spec.specs.Counts.{setCount}
+use Rattle.qcow2_spec.specs.Store.{judged, allot, writeNew, writeTable, writeSlot, writeWay, writePlan, discardSlot, discardWay, discardPlan}
+use Rattle.qcow2_spec.specs.Check.{figuresOf, verdict, repairUnits, verdictPlan, repairPlan}
+use Rattle.units.specs.declared.Outcome.the-variants.{Stopped}
+use Rattle.qcow2_spec.specs.declared.Verdict.{Verdict}
+use Rattle.qcow2_spec.specs.declared.Verdict.the-variants.{Sound as IsSound, Leaks, BadL1, BadL2, Shared, Short, Refused}
+use Rattle.units.specs.Plan.{storesCount}
+use Rattle.qcow2_spec.specs.Disk.{Request, write, discard, repair, planOf, finished, Same, Mixed, Fed}
+use Rattle.qcow2_spec.specs.Series.{Bytes, BytesOf}
+use Rattle.choice.proofs.Tests.{if-yes, if-no, if-elim, and-true, or-false, two-ways}
+use Rattle.qcow2_spec.proofs.Facts.{Facts, c-pos}
+use Rattle.qcow2_spec.proofs.Geo.{geo, code, geo-ok}
+use Rattle.qcow2_spec.proofs.Kept.{cnt-own}
+use Rattle.qcow2_spec.proofs.Verdicts.{refs-own, sound-exact}
+use Rattle.qcow2_spec.proofs.Ways.{rd, Slot, WayIs, way-is, dat-own, dat-place, dat-zero, dat-some-own, in-l1, inside}
+use Rattle.qcow2_spec.proofs.Units.{Like, none, also, like-append, like-run, like-fill, fill-quiet, cluster-around, count-like, entry-like, link-like, repair-like}
+
+-- ---- the disk after a write
+module _ (C x : ℕ) (d : List ℕ) (disk : ℕ → ℕ) (y : ℕ) where
+  written-in : x ≤ y → y < x + length d → finished C (write x d) disk y ≡ getD d (y - x) 0
+  unfolding finished
+  written-in h k = rw (le-leb x y h, lt-ltb y (x + length d) k) refl
+
+  written-out : ¬ ((x ≤ y) × (y < x + length d)) → finished C (write x d) disk y ≡ disk y
+  unfolding finished
+  written-out n = go (two-ways (leb x y && ltb y (x + length d)))
+    where
+      go : ((leb x y && ltb y (x + length d)) ≡ true) ⊎ ((leb x y && ltb y (x + length d)) ≡ false)
+          → (if leb x y && ltb y (x + length d) then getD d (y - x) 0 else disk y) ≡ disk y
+      go (inl e) = let p = and-true (leb x y) _ e in absurd (n (leb-true x y (p .0), ltb-true y (x + length d) (p .1)))
+      go (inr e) = if-no (leb x y && ltb y (x + length d)) _ _ e
+
+zero-place : (e : ℕ) → e ≡ 0 → place e ≡ 0
+unfolding place
+zero-place e z = rw z refl
+
+dec-range : (x y n : ℕ) → Dec ((x ≤ y) × (y < x + n))
+dec-range x y n = go (decLe x y) (decLt y (x + n))
+  where
+    go : Dec (x ≤ y) → Dec (y < x + n) → Dec ((x ≤ y) × (y < x + n))
+    go (yes a) (yes b) = yes (a, b)
+    go (yes a) (no b) = no (λ p. b (p .1))
+    go (no a) b = no (λ p. a (p .0))
+
+strong : (b : Bool) (size : ℕ) (old new now : ℕ → ℕ) → Same size now old ⊎ Same size now new → (u : ℕ) → Fed (Stopped u) b size old new now
+unfolding Fed Same Mixed
+strong true size old new now h u = h
+strong false size old new now (inl h) u = λ x l. inl (h x l)
+strong false size old new now (inr h) u = λ x l. inr (h x l)
+
+module _ (s : List ℕ) (f : Facts s) where
+  abbrev m : ℕ → ℕ → ℕ
+  m = mem (clusterSize s) s
+
+  abbrev pub seen : List ℕ → ℕ → ℕ
+  seen t = rd (geo s) (code s) t
+
+  abbrev pub Kept : List ℕ → Type 0
+  Kept t = Ok (geo s) (code s) m t
+
+  cp : 0 < clusterSize s
+  cp = c-pos s f
+
+  ep : 0 < perTable s
+  ep = geo-ok s f .epos
+
+  -- ---- what the machinery says of the reads, for the plain disk
+  same-rd : (t : List ℕ) → SameReads (geo s) (code s) s t → Same (diskSize s) (seen t) (seen s)
+  unfolding SameReads Same
+  same-rd t h y l = h (y / clusterSize s / perTable s) (y / clusterSize s % perTable s) (y % clusterSize s) (in-l1 s f y l) (mod-lt (y / clusterSize s) ep) (mod-lt y cp)
+
+  zeroed-rd : (t : List ℕ) (c : ℕ) → Zeroed (geo s) (code s) (c / perTable s) (c % perTable s) s t → Same (diskSize s) (seen t) (finished (clusterSize s) (discard c) (seen s))
+  unfolding Same finished
+  zeroed-rd t c h y l =
+      if-elim (λ (v : ℕ). seen t y ≡ v) (eqb (y / clusterSize s) c) _ _
+      (λ e. ap (λ (x : ℕ). gread (geo s) (code s) (mem (clusterSize s) t) (x / perTable s) (x % perTable s) (y % clusterSize s)) (eqb-true _ _ e) ∙ h .here (y % clusterSize s) (mod-lt y cp))
+      (λ e. h .other (y / clusterSize s / perTable s) (y / clusterSize s % perTable s) (y % clusterSize s) (in-l1 s f y l) (mod-lt (y / clusterSize s) ep) (mod-lt y cp)
+      (split-index (perTable s) (y / clusterSize s) c (eqb-false _ _ e)))
+
+  wrote-rd : (t : List ℕ) (x : ℕ) (d : List ℕ) → x % clusterSize s + length d ≤ clusterSize s
+      → Wrote (geo s) (code s) (x / clusterSize s / perTable s) (x / clusterSize s % perTable s) (x % clusterSize s) d s t
+      → Same (diskSize s) (seen t) (finished (clusterSize s) (write x d) (seen s))
+  unfolding Same
+  wrote-rd t x d fits h y l = go (ℕ-discrete (y / clusterSize s) (x / clusterSize s))
+    where
+      C : ℕ
+      C = clusterSize s
+
+      E : ℕ
+      E = perTable s
+
+      d1 : y / C * C + y % C ≡ y
+      d1 = div-add-mod' y C
+
+      d2 : x / C * C + x % C ≡ x
+      d2 = div-add-mod' x C
+
+      far : y / C ≢ x / C → ¬ ((x ≤ y) × (y < x + length d))
+      far n p = which (decLt (y / C) (x / C))
+        where
+          which : Dec (y / C < x / C) → ⊥
+          which (yes a) = omega (arith, d1, d2, mul-le-mul-right C a, mod-lt y cp)
+          which (no a) = let b : x / C < y / C = omega arith in omega (arith, d1, d2, mul-le-mul-right C b)
+
+      go : Dec (y / C ≡ x / C) → seen t y ≡ finished C (write x d) (seen s) y
+      go (no n) =
+          h .other (y / C / E) (y / C % E) (y % C) (in-l1 s f y l) (mod-lt (y / C) ep) (mod-lt y cp) (split-index E (y / C) (x / C) n)
+          ∙ sym (written-out C x d (seen s) y (far n))
+      go (yes e) = pick (dec-range x y (length d))
+        where
+          e′ : y / C * C ≡ x / C * C
+          e′ = ap (λ (z : ℕ). z * C) e
+
+          at : (r : List ℕ) → seen r y ≡ gread (geo s) (code s) (mem C r) (x / C / E) (x / C % E) (y % C)
+          at r = ap (λ (z : ℕ). gread (geo s) (code s) (mem C r) (z / E) (z % E) (y % C)) e
+
+          pick : Dec ((x ≤ y) × (y < x + length d)) → seen t y ≡ finished C (write x d) (seen s) y
+          pick (yes p) =
+              let q : y % C ≡ x % C + (y - x) = omega (arith, d1, d2, e′) in
+              at t ∙ ap (λ (z : ℕ). gread (geo s) (code s) (mem C t) (x / C / E) (x / C % E) z) q ∙ h .inside (y - x) (omega arith)
+              ∙ sym (written-in C x d (seen s) y (p .0) (p .1))
+          pick (no n) = at t ∙ h .outside (y % C) (mod-lt y cp) (side (decLt y x)) ∙ sym (at s) ∙ sym (written-out C x d (seen s) y n)
+            where
+              side : Dec (y < x) → (y % C < x % C) ⊎ (x % C + length d ≤ y % C)
+              side (yes a) = inl (omega (arith, d1, d2, e′))
+              side (no a) = inr (apart (decLe (x + length d) y))
+                where
+                  apart : Dec (x + length d ≤ y) → x % C + length d ≤ y % C
+                  apart (yes b) = omega (arith, d1, d2, e′)
+                  apart (no b) = absurd (n (omega arith, omega arith))
+
+  part-rd : (t : List ℕ) (x : ℕ) (d : List ℕ) (n : ℕ) → x % clusterSize s + length d ≤ clusterSize s
+      → Wrote (geo s) (code s) (x / clusterSize s / perTable s) (x / clusterSize s % perTable s) (x % clusterSize s) (take n d) s t
+      → Mixed (diskSize s) (seen t) (seen s) (finished (clusterSize s) (write x d) (seen s))
+  unfolding Mixed Same
+  part-rd t x d n fits h y l = go (dec-range x y (length (take n d)))
+    where
+      r : seen t y ≡ finished (clusterSize s) (write x (take n d)) (seen s) y
+      r = wrote-rd t x (take n d) (omega (arith, length-take n d)) h y l
+
+      go : Dec ((x ≤ y) × (y < x + length (take n d))) → (seen t y ≡ seen s y) ⊎ (seen t y ≡ finished (clusterSize s) (write x d) (seen s) y)
+      go (no q) = inl (r ∙ written-out (clusterSize s) x (take n d) (seen s) y q)
+      go (yes p) =
+          inr (r ∙ written-in (clusterSize s) x (take n d) (seen s) y (p .0) (p .1) ∙ getD-take n d (y - x) 0 (omega (arith, length-take n d))
+          ∙ sym (written-in (clusterSize s) x d (seen s) y (p .0) (omega (arith, length-take n d))))
+
+  -- ---- what a plan must do
+  unfoldable pub Exact : Request → List ℕ → Type 0
+  Exact (write x d) t = Unit {0}
+  Exact (discard c) t = Unit {0}
+  Exact (repair n) t = (c : ℕ) → c < clusters s → cnt (geo s) (mem (clusterSize s) t) c ≡ refsOf (geo s) (code s) (mem (clusterSize s) t) c
+
+  abbrev pub Mid : Request → Bool → List ℕ → Type 0
+  Mid r b t = Kept t × ((u : ℕ) → Fed (Stopped u) b (diskSize s) (seen s) (finished (clusterSize s) r (seen s)) (seen t))
+
+  abbrev pub End : Request → List ℕ → Type 0
+  End r t = Kept t × (Same (diskSize s) (seen t) (finished (clusterSize s) r (seen s)) × Exact r t)
+
+  unfoldable pub Fine : Request → Plan → Type 0
+  Fine r (refused n) = Unit {0}
+  Fine r (units us) = ((a : ℕ) → Mid r (storesCount us) (applyAll (take a us) s)) × End r (applyAll us s)
+
+  module _ (k : Kept s) where
+    snd : Sound (geo s) (code s) m
+    snd = k .sound
+
+    fine-none : (r : Request) → Same (diskSize s) (seen s) (finished (clusterSize s) r (seen s)) → Exact r s → Fine r (units [])
+    unfolding Fine applyAll Same
+    fine-none r h e = ((λ a. cut a), (k, (h, e)))
+      where
+        cut : (a : ℕ) → Mid r (storesCount []) (applyAll (take a []) s)
+        cut zero = (k, strong (storesCount []) (diskSize s) (seen s) (finished (clusterSize s) r (seen s)) (seen s) (inl (λ y l. refl)))
+        cut (suc a) = (k, strong (storesCount []) (diskSize s) (seen s) (finished (clusterSize s) r (seen s)) (seen s) (inl (λ y l. refl)))
+
+    fine-refused : (r : Request) (n : ℕ) → Fine r (refused n)
+    unfolding Fine
+    fine-refused r n = tt
+
+    -- the lowest free cluster
+    first-is : (p : ℕ → Bool) (i n : ℕ) → first p i n < i + n → (i ≤ first p i n) × (p (first p i n) ≡ true)
+    first-is p i zero h = absurd (omega arith)
+    first-is p i (suc n) h = go (two-ways (p i)) (λ e l. first-is p (suc i) n l)
+      where
+        go : (p i ≡ true) ⊎ (p i ≡ false) → (p i ≡ false → first p (suc i) n < suc i + n → (suc i ≤ first p (suc i) n) × (p (first p (suc i) n) ≡ true))
+            → (i ≤ first p i (suc n)) × (p (first p i (suc n)) ≡ true)
+        go (inl e) r = let q : first p i (suc n) ≡ i = if-yes (p i) i _ e in (omega arith, rw q e)
+        go (inr e) r =
+            let q : first p i (suc n) ≡ first p (suc i) n = if-no (p i) i _ e in
+            let t = r e (omega arith) in
+            (omega arith, rw q (t .1))
+
+    free-is : (i : ℕ) → freeFrom s i < clusters s → (i ≤ freeFrom s i) × (cnt (geo s) m (freeFrom s i) ≡ 0)
+    unfolding freeFrom freeAt
+    free-is i h = go (decLe i (clusters s))
+      where
+        p : ℕ → Bool
+        p = freeAt s
+
+        go : Dec (i ≤ clusters s) → (i ≤ first p i (clusters s - i)) × (cnt (geo s) m (first p i (clusters s - i)) ≡ 0)
+        go (yes l) = let t = first-is p i (clusters s - i) (omega arith) in (t .0, cnt-own s f _ h ∙ eqb-true _ _ (t .1))
+        go (no n) = let z : clusters s - i ≡ 0 = omega arith in absurd (over (clusters s - i) z h)
+          where
+            over : (c : ℕ) → c ≡ 0 → first p i c < clusters s → ⊥
+            over zero e q = omega arith
+            over (suc c) e q = suc-ne-zero c e
+
+    module _ (x : ℕ) (d : List ℕ) (sm : Bytes d) (inSize : x + length d ≤ diskSize s) (some-bytes : length d ≢ 0) (inC : x % clusterSize s + length d ≤ clusterSize s) where
+      abbrev i : ℕ
+      i = x / clusterSize s / perTable s
+
+      abbrev j : ℕ
+      j = x / clusterSize s % perTable s
+
+      abbrev o : ℕ
+      o = x % clusterSize s
+
+      li : i < l1Size s
+      li = in-l1 s f x (omega arith)
+
+      lj : j < perTable s
+      lj = mod-lt (x / clusterSize s) ep
+
+      fine-w : (us : List UnitStore) (vs : List Store) → Like (clusterSize s) us vs
+          → Run (clusterSize s) (MidW (geo s) (code s) (geo-ok s f) m i j o d s) vs s (EndW (geo s) (code s) (geo-ok s f) m i j o d s)
+          → Fine (write x d) (units us)
+      unfolding Fine Exact
+      fine-w us vs lk q =
+          let r = like-run (MidW (geo s) (code s) (geo-ok s f) m i j o d s) (EndW (geo s) (code s) (geo-ok s f) m i j o d s) s lk q in (
+            (λ a. (r .0 a .0, strong (storesCount us) (diskSize s) (seen s) (finished (clusterSize s) (write x d) (seen s)) (seen (applyAll (take a us) s)) (choose _ (r .0 a .1)))),
+            (r .1 .0, (wrote-rd _ x d inC (r .1 .1), tt)),
+          )
+        where
+          choose : (t : List ℕ) → SameReads (geo s) (code s) s t ⊎ Wrote (geo s) (code s) i j o d s t
+              → Same (diskSize s) (seen t) (seen s) ⊎ Same (diskSize s) (seen t) (finished (clusterSize s) (write x d) (seen s))
+          choose t (inl h) = inl (same-rd t h)
+          choose t (inr h) = inr (wrote-rd t x d inC h)
+
+      fine-place : (us : List UnitStore) → storesCount us ≡ false → Like (clusterSize s) us (fill (dat (geo s) (code s) m i j) o d)
+          → dat (geo s) (code s) m i j ≢ 0 → l2 (geo s) m (tab (geo s) (code s) m i) j % 2 ≡ 0 → Fine (write x d) (units us)
+      unfolding Fine Exact Fed
+      fine-place us quiet lk dn fl =
+          let r = like-run (MidP (geo s) (code s) (geo-ok s f) m i j o d s) (EndW (geo s) (code s) (geo-ok s f) m i j o d s) s lk
+          (place-run (geo s) (code s) (geo-ok s f) m s k i j o d li lj inC sm dn fl) in (
+            (λ a. (
+              r .0 a .0,
+              λ u. subst (λ (b : Bool). Fed (Stopped u) b (diskSize s) (seen s) (finished (clusterSize s) (write x d) (seen s)) (seen (applyAll (take a us) s))) (sym quiet)
+                  (part-rd _ x d (r .0 a .1 .0) inC (r .0 a .1 .1)),
+            )),
+            (r .1 .0, (wrote-rd _ x d inC (r .1 .1), tt)),
+          )
+
+      fine-new : (a c : ℕ) → a ≡ tab (geo s) (code s) m i * clusterSize s + 8 * j → tab (geo s) (code s) m i ≢ 0 → dat (geo s) (code s) m i j ≡ 0
+          → (c < clusters s → cnt (geo s) m c ≡ 0) → Fine (write x d) (writeNew s a c o d)
+      unfolding writeNew allot
+      fine-new a c at tn dz z =
+          if-elim (Fine (write x d)) (leb (clusters s) c) _ _ (λ h. fine-refused (write x d) 14)
+          (λ h. let l : c < clusters s = leb-false _ _ h in
+          fine-w _ _
+          (also (λ t. count-like s f c 1 l t)
+          (like-append (subst (λ (bs : List ℕ). Like (clusterSize s) (fillU (c * clusterSize s) (cluster (clusterSize s) o d)) (fill c 0 bs)) (cluster-around (clusterSize s) o d) (like-fill (clusterSize s) (c * clusterSize s) c 0 _ (sym (add-zero _))))
+          (also (λ t. entry-like s f a (tab (geo s) (code s) m i) j _ _ at refl t) none)))
+          (alloc-run (geo s) (code s) (geo-ok s f) m s k i j o d li lj inC sm c l (z l) tn dz))
+
+      fine-table : (t c : ℕ) → tab (geo s) (code s) m i ≡ 0 → (c < clusters s → t < c) → (t < clusters s → cnt (geo s) m t ≡ 0) → (c < clusters s → cnt (geo s) m c ≡ 0)
+          → Fine (write x d) (writeTable s (x / clusterSize s) t c o d)
+      unfolding writeTable allot
+      fine-table t c tz tc zt zc =
+          if-elim (Fine (write x d)) (leb (clusters s) c) _ _ (λ h. fine-refused (write x d) 14)
+          (λ h. let l : c < clusters s = leb-false _ _ h in
+          let b : t < c = tc l in
+          rw append-assoc
+          (fine-w _ _
+          (like-append (also (λ r. count-like s f t 1 (omega arith) r) (like-fill (clusterSize s) (t * clusterSize s) t 0 _ (sym (add-zero _))))
+          (like-append
+          (also (λ r. count-like s f c 1 l r)
+          (subst (λ (bs : List ℕ). Like (clusterSize s) (fillU (c * clusterSize s) (cluster (clusterSize s) o d)) (fill c 0 bs)) (cluster-around (clusterSize s) o d) (like-fill (clusterSize s) (c * clusterSize s) c 0 _ (sym (add-zero _)))))
+          (also (λ r. entry-like s f _ t j _ _ refl refl r) (also (λ r. link-like s f (x / clusterSize s) _ r) none))))
+          (table-run (geo s) (code s) (geo-ok s f) m s k i j o d li lj inC sm t c (omega arith) l (omega arith) (zt (omega arith)) (zc l) tz)))
+
+      fine-slot : (a e : ℕ) → Slot s f (x / clusterSize s) a e → Fine (write x d) (writeSlot s a e o d)
+      unfolding writeSlot zeroMark
+      fine-slot a e h =
+          if-elim (Fine (write x d)) (eqb (place e) 0) _ _
+          (λ z. fine-new a (freeFrom s 0) (h .place-is) (h .table) (dat-zero s f _ a e h (eqb-true _ _ z)) (λ l. free-is 0 l .1))
+          (λ z. let dn = dat-some-own s f _ a e h (eqb-false _ _ z) in
+          if-elim (Fine (write x d)) (eqb (e % 2) 1) _ _
+          (λ b. fine-w _ _
+          (like-append (subst (λ (bs : List ℕ). Like (clusterSize s) (fillU (place e) (cluster (clusterSize s) o d)) (fill (dat (geo s) (code s) m i j) 0 bs)) (cluster-around (clusterSize s) o d)
+          (like-fill (clusterSize s) (place e) (dat (geo s) (code s) m i j) 0 _ (sym (dat-place s f _ a e h) ∙ sym (add-zero _))))
+          (also (λ t. entry-like s f a (tab (geo s) (code s) m i) j _ _ (h .place-is) (ap newEntry (sym (dat-place s f _ a e h))) t) none))
+          (marked-run (geo s) (code s) (geo-ok s f) m s k i j o d li lj inC sm dn (λ y. omega (arith, eqb-true (e % 2) 1 b, flag, y))))
+          (λ b. fine-place _ (fill-quiet (place e + o) d) (like-fill (clusterSize s) (place e + o) (dat (geo s) (code s) m i j) o d (ap (λ (y : ℕ). y + o) (sym (dat-place s f _ a e h)))) dn
+          (sym flag ∙ even (eqb-false _ _ b))))
+        where
+          flag : e % 2 ≡ l2 (geo s) m (tab (geo s) (code s) m i) j % 2
+          flag = ap (λ (y : ℕ). y % 2) (h .entry-is)
+
+          even : e % 2 ≢ 1 → e % 2 ≡ 0
+          even n = omega arith
+
+      fine-way : (w : Way) → WayIs s f (x / clusterSize s) w → Fine (write x d) (writeWay s w (x / clusterSize s) o d)
+      unfolding WayIs writeWay
+      fine-way (bad n) h = fine-refused (write x d) n
+      fine-way noTable h = fine-table (freeFrom s 0) (freeFrom s (freeFrom s 0 + 1)) h (λ l. omega (arith, free-is (freeFrom s 0 + 1) l .0)) (λ l. free-is 0 l .1) (λ l. free-is (freeFrom s 0 + 1) l .1)
+      fine-way (slot a e) h = fine-slot a e h
+
+    no-bytes : (x : ℕ) (d : List ℕ) → length d ≡ 0 → Same (diskSize s) (seen s) (finished (clusterSize s) (write x d) (seen s))
+    unfolding Same
+    no-bytes x d z y l = sym (written-out (clusterSize s) x d (seen s) y (λ p. omega arith))
+
+    exact-write : (x : ℕ) (d : List ℕ) → Exact (write x d) s
+    unfolding Exact
+    exact-write x d = tt
+
+    fine-write : judge s ≡ 0 → (x : ℕ) (d : List ℕ) → Bytes d → Fine (write x d) (writePlan s x d)
+    unfolding writePlan judged
+    fine-write e x d sm =
+        rw e
+        (if-elim (Fine (write x d)) (outside s x (length d) || ltb (clusterSize s - x % clusterSize s) (length d)) _ _ (λ b. fine-refused (write x d) 11)
+        (λ b. let p = or-false (outside s x (length d)) _ b in
+        let fits : x % clusterSize s + length d ≤ clusterSize s = omega (arith, ltb-false (clusterSize s - x % clusterSize s) (length d) (p .1), mod-lt x cp) in
+        if-elim (Fine (write x d)) (eqb (length d) 0) _ _
+        (λ z. fine-none (write x d) (no-bytes x d (eqb-true _ _ z)) (exact-write x d))
+        (λ z. fine-way x d sm (inside s f x (length d) (p .0)) (eqb-false _ _ z) fits (way s (x / clusterSize s)) (way-is s f (x / clusterSize s)))))
+
+    -- ---- discard
+    fine-z : (c : ℕ) (us : List UnitStore) (vs : List Store) → Like (clusterSize s) us vs
+        → Run (clusterSize s) (MidZ (geo s) (code s) (geo-ok s f) m (c / perTable s) (c % perTable s) s) vs s (EndZ (geo s) (code s) (geo-ok s f) m (c / perTable s) (c % perTable s) s)
+        → Fine (discard c) (units us)
+    unfolding Fine Exact
+    fine-z c us vs lk q =
+        let r = like-run (MidZ (geo s) (code s) (geo-ok s f) m (c / perTable s) (c % perTable s) s) (EndZ (geo s) (code s) (geo-ok s f) m (c / perTable s) (c % perTable s) s) s lk q in (
+          (λ a. (r .0 a .0, strong (storesCount us) (diskSize s) (seen s) (finished (clusterSize s) (discard c) (seen s)) (seen (applyAll (take a us) s)) (choose _ (r .0 a .1)))),
+          (r .1 .0, (zeroed-rd _ c (r .1 .1), tt)),
+        )
+      where
+        choose : (t : List ℕ) → SameReads (geo s) (code s) s t ⊎ Zeroed (geo s) (code s) (c / perTable s) (c % perTable s) s t
+            → Same (diskSize s) (seen t) (seen s) ⊎ Same (diskSize s) (seen t) (finished (clusterSize s) (discard c) (seen s))
+        choose t (inl h) = inl (same-rd t h)
+        choose t (inr h) = inr (zeroed-rd t c h)
+
+    -- nothing there: the guest reads zeros already
+    fine-absent : (c : ℕ) → dat (geo s) (code s) m (c / perTable s) (c % perTable s) ≡ 0 → Fine (discard c) (units [])
+    unfolding Same finished Exact
+    fine-absent c z =
+        fine-none (discard c)
+        (λ y l. if-elim (λ (v : ℕ). seen s y ≡ v) (eqb (y / clusterSize s) c) _ _
+        (λ e. ap (λ (x : ℕ). gread (geo s) (code s) m (x / perTable s) (x % perTable s) (y % clusterSize s)) (eqb-true _ _ e)
+        ∙ gread-none (geo s) (code s) m (c / perTable s) (c % perTable s) (y % clusterSize s) z)
+        (λ e. refl))
+        tt
+
+    fine-drop : (c : ℕ) → c / perTable s < l1Size s → (a e : ℕ) → Slot s f c a e → Fine (discard c) (discardSlot s a e)
+    unfolding discardSlot
+    fine-drop c lc a e h =
+        if-elim (Fine (discard c)) (eqb e 0) _ _ (λ z. fine-absent c (dat-zero s f c a e h (zero-place e (eqb-true _ _ z))))
+        (λ z. if-elim (Fine (discard c)) (eqb (place e) 0) _ _
+        (λ p. fine-z c _ _ (also (λ t. entry-like s f a (tab (geo s) (code s) m (c / perTable s)) (c % perTable s) _ _ (h .place-is) refl t) none)
+        (unmark-run (geo s) (code s) (geo-ok s f) m s k (c / perTable s) (c % perTable s) lc (mod-lt c ep) (h .table) (dat-zero s f c a e h (eqb-true _ _ p))))
+        (λ p. if-elim (Fine (discard c)) (eqb (countOf s (place e / clusterSize s)) 0) _ _ (λ n. fine-refused (discard c) 16)
+        (λ n. fine-z c _ _ (also (λ t. entry-like s f a (tab (geo s) (code s) m (c / perTable s)) (c % perTable s) _ _ (h .place-is) refl t)
+        (also (λ t. freed t) none))
+        (discard-run (geo s) (code s) (geo-ok s f) m s k (c / perTable s) (c % perTable s) lc (mod-lt c ep) (dat-some-own s f c a e h (eqb-false _ _ p))))))
+      where
+        q : place e / clusterSize s ≡ dat (geo s) (code s) m (c / perTable s) (c % perTable s)
+        q = sym (dat-own s f c a e h)
+
+        inN : dat (geo s) (code s) m (c / perTable s) (c % perTable s) < clusters s
+        inN = dat-in (geo s) (code s) (geo-ok s f) m snd (c / perTable s) (c % perTable s) lc (mod-lt c ep)
+
+        freed : (t : List ℕ) → applyU (setCount s (place e / clusterSize s) (countOf s (place e / clusterSize s) - 1)) t
+            ≡ apply (clusterSize s) (countStore (geo s) m (dat (geo s) (code s) m (c / perTable s) (c % perTable s)) (cnt (geo s) m (dat (geo s) (code s) m (c / perTable s) (c % perTable s)) - 1)) t
+        freed t =
+            ap (λ (y : ℕ). applyU (setCount s y (countOf s y - 1)) t) q
+            ∙ ap (λ (y : ℕ). applyU (setCount s (dat (geo s) (code s) m (c / perTable s) (c % perTable s)) (y - 1)) t) (sym (cnt-own s f _ inN))
+            ∙ count-like s f (dat (geo s) (code s) m (c / perTable s) (c % perTable s)) _ inN t
+
+    fine-discard-way : (c : ℕ) → c / perTable s < l1Size s → (w : Way) → WayIs s f c w → Fine (discard c) (discardWay s w)
+    unfolding WayIs discardWay
+    fine-discard-way c l (bad n) h = fine-refused (discard c) n
+    fine-discard-way c l noTable h = fine-absent c (dat-none (geo s) (code s) m (c / perTable s) (c % perTable s) h)
+    fine-discard-way c l (slot a e) h = fine-drop c l a e h
+
+    fine-discard : judge s ≡ 0 → (c : ℕ) → Fine (discard c) (discardPlan s c)
+    unfolding discardPlan judged
+    fine-discard e c =
+        rw e
+        (if-elim (Fine (discard c)) (leb (diskSize s) (c * clusterSize s)) _ _ (λ b. fine-refused (discard c) 11)
+        (λ b. fine-discard-way c (inL (leb-false _ _ b)) (way s c) (way-is s f c)))
+      where
+        inL : c * clusterSize s < diskSize s → c / perTable s < l1Size s
+        inL l = div-lt-iff-lt-mul ep .1 (lt-of-mul-lt-mul-right (clusterSize s) (omega (arith, f .reach)))
+
+    -- ---- repair
+    fine-list : (n : ℕ) → Fine (repair n) (units (repairUnits s (figuresOf s) 0 (clusters s)))
+    unfolding Fine Exact finished
+    fine-list n =
+        let us = repairUnits s (figuresOf s) 0 (clusters s) in
+        let r = like-run (MidR (geo s) (code s) (geo-ok s f) m s k) (Repaired (geo s) (code s) (geo-ok s f) m s k) s (repair-like s f snd (clusters s) 0 (omega arith)) (repair-run (geo s) (code s) (geo-ok s f) m s k) in (
+          (λ a. (r .0 a .0, strong (storesCount us) (diskSize s) (seen s) (finished (clusterSize s) (repair n) (seen s)) (seen (applyAll (take a us) s)) (inl (same-rd _ (r .0 a .1))))),
+          (r .1 .still .fine, (same-rd _ (r .1 .still .reads), r .1 .exact)),
+        )
+
+    fine-verdict : (n : ℕ) (v : Verdict) → verdict s ≡ v → Fine (repair n) (verdictPlan s v)
+    unfolding verdictPlan finished Exact Same
+    fine-verdict n IsSound q =
+        fine-none (repair n) (λ y l. refl) (λ c l. cnt-own s f c l ∙ sound-exact s f snd q c l ∙ refs-own s f snd c)
+    fine-verdict n (Leaks x) q = fine-list n
+    fine-verdict n (BadL1 i) q = fine-refused (repair n) 17
+    fine-verdict n (BadL2 i j) q = fine-refused (repair n) 17
+    fine-verdict n (Shared c) q = fine-refused (repair n) 17
+    fine-verdict n (Short c) q = fine-refused (repair n) 17
+    fine-verdict n (Refused c) q = fine-refused (repair n) c
+
+    fine-repair : judge s ≡ 0 → (n : ℕ) → Fine (repair n) (repairPlan s n)
+    unfolding repairPlan judged
+    fine-repair e n =
+        rw e
+        (if-elim (Fine (repair n)) (ltb n (clusters s)) _ _ (λ b. fine-refused (repair n) 15) (λ b. fine-verdict n (verdict s) refl))
+
+    pub plan-fine : judge s ≡ 0 → (r : Request) → BytesOf r → Fine r (planOf s r)
+    unfolding BytesOf planOf
+    plan-fine e (write x d) sm = fine-write e x d sm
+    plan-fine e (discard c) sm = fine-discard e c
+    plan-fine e (repair n) sm = fine-repair e n
