@@ -1,0 +1,105 @@
+-- The starred lines of paper 01, "The bench image", and its lines on the header, as one table. It is proved in proofs/Table.antt.
+-- Assumes nothing.
+use Prim.Native.Nat.{ℕ, _≤_}
+use mathlib.Core.Path.{_≡_}
+use mathlib.Core.Logic.{_≢_}
+use mathlib.Core.List.{List, [], _∷_, _++_}
+use lib.ListN.{length, take}
+use lib.Seq.{sets}
+use Rattle.endian.specs.Big.{be64, part}
+use Rattle.units.specs.Plan.{Plan, planUnits, planNumber}
+use Rattle.qcow2_spec.specs.Header.{judge}
+use Rattle.qcow2_spec.specs.Counts.{free}
+use Rattle.qcow2_spec.specs.Guest.{guestBytes, readNumber}
+use Rattle.qcow2_spec.specs.Store.{writePlan, discardPlan}
+use Rattle.qcow2_spec.specs.Check.{verdict, repairPlan}
+use Rattle.qcow2_spec.specs.declared.Verdict.the-variants.{Sound, Leaks}
+use Rattle.bench_table.specs.Bench.{bench, benchWith}
+
+-- the units of a plan's whole list
+unfoldable pub cost : Plan → ℕ
+cost p = length (planUnits p)
+
+-- the image with the counts of clusters 6 to 14 set to 1
+unfoldable pub filled : List ℕ → List ℕ
+filled s = sets s 1036 (0 ∷ 1 ∷ 0 ∷ 1 ∷ 0 ∷ 1 ∷ 0 ∷ 1 ∷ 0 ∷ 1 ∷ 0 ∷ 1 ∷ 0 ∷ 1 ∷ 0 ∷ 1 ∷ 0 ∷ 1 ∷ [])
+
+-- the write of five bytes d at 33,285, and the bench image after k units of it, where `store` stores a plan's units
+unfoldable pub write : List ℕ → Plan
+write d = writePlan bench 33285 d
+
+unfoldable pub written : (Plan → ℕ → List ℕ → List ℕ) → List ℕ → ℕ → List ℕ
+written store d k = store (write d) k bench
+
+-- what the whole write leaves
+pub record Stored (store : Plan → ℕ → List ℕ → List ℕ) (five : List ℕ) (x y z : ℕ) : Type 0 where
+  pub units : cost (write five) ≡ 1028
+  pub l1-entry : be64 (written store five 1028) 1544 ≡ 0x8000000000000800
+  pub l2-entry : be64 (written store five 1028) 2056 ≡ 0x8000000000000A00
+  pub bytes : part (written store five 1028) 2565 5 ≡ five
+  pub left : free (written store five 1028) ≡ 10
+  pub whole : verdict (written store five 1028) ≡ Sound
+  pub reads : guestBytes (written store five 1028) 33285 5 ≡ five
+
+-- what a power cut before the data count leaves
+pub record CutEarly (store : Plan → ℕ → List ℕ → List ℕ) (five : List ℕ) (x y z : ℕ) : Type 0 where
+  pub cut-0 : verdict (written store five 0) ≡ Sound
+  pub cut-1 : verdict (written store five 1) ≡ Leaks 1
+  pub cut-513 : verdict (written store five 513) ≡ Leaks 1
+
+-- what a later power cut leaves
+pub record CutLate (store : Plan → ℕ → List ℕ → List ℕ) (five : List ℕ) (x y z : ℕ) : Type 0 where
+  pub cut-514 : verdict (written store five 514) ≡ Leaks 2
+  pub cut-1026 : verdict (written store five 1026) ≡ Leaks 2
+  pub cut-1027 : verdict (written store five 1027) ≡ Leaks 2
+
+-- the repair after 1,027 units
+pub record Repaired (store : Plan → ℕ → List ℕ → List ℕ) (five : List ℕ) (x y z : ℕ) : Type 0 where
+  pub repair-cost : cost (repairPlan (written store five 1027) 16) ≡ 2
+  pub repair-left : free (store (repairPlan (written store five 1027) 16) 2 (written store five 1027)) ≡ 12
+
+-- calls after the whole write
+pub record Next (store : Plan → ℕ → List ℕ → List ℕ) (five : List ℕ) (x y z : ℕ) : Type 0 where
+  pub again : cost (writePlan (written store five 1028) 33280 (x ∷ y ∷ z ∷ [])) ≡ 3
+  pub beside : cost (writePlan (written store five 1028) 32768 (x ∷ [])) ≡ 514
+  pub beside-place : be64 (store (writePlan (written store five 1028) 32768 (x ∷ [])) 514 (written store five 1028)) 2048 ≡ 0x8000000000000C00
+
+-- the discard of cluster 65 after the whole write
+pub record Discarded (store : Plan → ℕ → List ℕ → List ℕ) (five : List ℕ) (x y z : ℕ) : Type 0 where
+  pub discard : cost (discardPlan (written store five 1028) 65) ≡ 2
+  pub discard-cut : verdict (store (discardPlan (written store five 1028) 65) 1 (written store five 1028)) ≡ Leaks 1
+
+-- writes where one cluster is free
+pub record Full (store : Plan → ℕ → List ℕ → List ℕ) (five : List ℕ) (x y z : ℕ) : Type 0 where
+  pub needs-two : planNumber (writePlan (filled (written store five 1028)) 0 (x ∷ [])) ≡ 14
+  pub needs-one : planNumber (writePlan (filled (written store five 1028)) 32768 (x ∷ [])) ≡ 0
+
+-- ranges at their ends
+pub record Edges (store : Plan → ℕ → List ℕ → List ℕ) (five : List ℕ) (x y z : ℕ) : Type 0 where
+  pub read-none : readNumber bench 65536 0 ≡ 0
+  pub read-one : readNumber bench 65536 1 ≡ 11
+  pub write-two : planNumber (writePlan bench 510 (x ∷ y ∷ [])) ≡ 0
+  pub write-three : planNumber (writePlan bench 510 (x ∷ y ∷ z ∷ [])) ≡ 11
+
+-- the starred lines
+pub record Starred (store : Plan → ℕ → List ℕ → List ℕ) (five : List ℕ) (x y z : ℕ) : Type 0 where
+  pub stored : Stored store five x y z
+  pub cutEarly : CutEarly store five x y z
+  pub cutLate : CutLate store five x y z
+  pub repaired : Repaired store five x y z
+  pub next : Next store five x y z
+  pub discarded : Discarded store five x y z
+  pub full : Full store five x y z
+  pub edges : Edges store five x y z
+
+-- the lines on the header
+pub record Headers : Type 0 where
+  pub accepted : judge bench ≡ 0
+  pub size : judge (benchWith 9 65537 2) ≡ 8
+  pub size-reached : judge (benchWith 9 65537 3) ≡ 0
+  pub rows : judge (benchWith 9 65536 4097) ≡ 8
+  pub bits-8 : judge (benchWith 8 65536 2) ≡ 4
+  pub bits-17 : judge (benchWith 17 65536 2) ≡ 4
+  pub bits-16 : judge (benchWith 16 65536 2) ≡ 5
+  pub short : judge (take 511 bench) ≡ 1
+  pub odd : judge (bench ++ 0 ∷ []) ≡ 5
