@@ -10,3 +10,4 @@ pub mod Units
 pub mod Plans
 pub mod Series
 pub mod Difference
+pub mod Room
