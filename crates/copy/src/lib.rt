@@ -16,13 +16,13 @@ pub fn zeros(s: &mut [u8], at: usize, n: usize)
     }
 }
 
-// Stores the first n bytes of src from an index on.
-pub fn bytes(s: &mut [u8], at: usize, src: &[u8], n: usize)
-    requires { ⌜ (at + n ≤ length (now s)) × (n ≤ length (now src)) ⌝ }
-    ensures { λ _. ⌜ now (s .exit) ≡ splice (now (s .entry)) at (take n (now (src .entry))) ⌝ }
+// Stores the first len bytes of src from an index on.
+pub fn bytes(s: &mut [u8], at: usize, src: &[u8], len: usize)
+    requires { ⌜ (at + len ≤ length (now s)) × (len ≤ length (now src)) ⌝ }
+    ensures { λ _. ⌜ now (s .exit) ≡ splice (now (s .entry)) at (take len (now (src .entry))) ⌝ }
 {
     let mut i = 0;
-    while i < n {
+    while i < len {
         s[at + i] = src[i];
         i += 1;
     }

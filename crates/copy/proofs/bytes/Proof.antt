@@ -31,7 +31,7 @@ loop-again c =
 returns : tie.Need-returns Inv-loop μ-loop
 returns c =
     let t = c .before in
-    let e : t .loop .i ≡ t .before .args .n = omega arith in
+    let e : t .loop .i ≡ t .before .args .len = omega arith in
     cc
 
 pub bytes-spec : {M : Type 1} → statement M
