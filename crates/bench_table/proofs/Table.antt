@@ -18,7 +18,8 @@ use Rattle.qcow2_spec.specs.Entries.{place, goodPlace, goodL1, goodL2, compress
 use Rattle.qcow2_spec.specs.Counts.{countAt, countOf, setCount, freeAt, freeFrom, free}
 use Rattle.qcow2_spec.specs.Guest.{l1EntryAt, l1Entry, entryWay, l2Way, way, entryGives, wayGives, located, translate, foundByte, guestByte, guestBytes, wayNumber, waysNumber, outside, touched, readNumber}
 use Rattle.qcow2_spec.specs.Store.{judged, allot, writeNew, writeTable, writeSlot, writeWay, writePlan, discardSlot, discardWay, discardPlan}
-use Rattle.qcow2_spec.specs.Check.{l1Entries, l2Entries, named, l2Refs, tableRefs, l1Refs, fixedRefs, references, figuresOf, l2Verdict, entryVerdict, l1Verdict, short, over, countsVerdict, verdict, repairUnits, verdictPlan, repairPlan, check}
+use Rattle.qcow2_spec.specs.References.{l1Entries, l2Entries, named, l2Refs, tableRefs, l1Refs, fixedRefs, references, figuresOf}
+use Rattle.qcow2_spec.specs.Check.{l2Verdict, entryVerdict, l1Verdict, short, over, countsVerdict, verdict, repairUnits, verdictPlan, repairPlan, check}
 use Rattle.qcow2_spec.specs.Series.{Healthy, Call, AllBytes, Agrees, Holds}
 use Rattle.qcow2_spec.proofs.Series.{demand3}
 use Rattle.bench_table.specs.Bench.{header, body, benchWith, bench}

@@ -13,7 +13,8 @@ use Rattle.qcow2_spec.specs.Counts.{countAt, countOf}
 use Rattle.endian.specs.Big.{be16}
 use Rattle.tally.proofs.Laws.{figures-small}
 use Rattle.qcow2_spec.specs.Header.{clusters}
-use Rattle.qcow2_spec.specs.Check.{references, figuresOf, difference}
+use Rattle.qcow2_spec.specs.References.{references, figuresOf}
+use Rattle.qcow2_spec.specs.Check.{difference}
 use Rattle.qcow2_spec.specs.Series.{Bytes}
 use Rattle.choice.proofs.Tests.{two-ways}
 

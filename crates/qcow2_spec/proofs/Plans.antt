@@ -30,7 +30,8 @@ use Rattle.units.specs.Units.{UnitStore, apply as applyU, applyAll, fill as fil
 use Rattle.qcow2_spec.specs.Entries.{newEntry}
 use Rattle.qcow2_spec.specs.Counts.{setCount}
 use Rattle.qcow2_spec.specs.Store.{judged, allot, writeNew, writeTable, writeSlot, writeWay, writePlan, discardSlot, discardWay, discardPlan}
-use Rattle.qcow2_spec.specs.Check.{figuresOf, verdict, repairUnits, verdictPlan, repairPlan}
+use Rattle.qcow2_spec.specs.References.{figuresOf}
+use Rattle.qcow2_spec.specs.Check.{verdict, repairUnits, verdictPlan, repairPlan}
 use Rattle.units.specs.declared.Outcome.the-variants.{Stopped}
 use Rattle.qcow2_spec.specs.declared.Verdict.{Verdict}
 use Rattle.qcow2_spec.specs.declared.Verdict.the-variants.{Sound as IsSound, Leaks, BadL1, BadL2, Shared, Short, Refused}

@@ -20,7 +20,8 @@ use Rattle.qcow2_spec.specs.Guest.{guestByte, outside}
 use Rattle.units.specs.Plan.{Plan, refused, units, planUnits, ended, outcome, after}
 use Rattle.units.specs.Units.{applyAll}
 use Rattle.tally.specs.Tally.{occurrences}
-use Rattle.qcow2_spec.specs.Check.{references, verdict, check}
+use Rattle.qcow2_spec.specs.References.{references}
+use Rattle.qcow2_spec.specs.Check.{verdict, check}
 use Rattle.units.specs.declared.Outcome.{Outcome}
 use Rattle.units.specs.declared.Outcome.the-variants.{Finished, Stopped, Refused}
 use Rattle.qcow2_spec.specs.declared.Verdict.the-variants.{Refused as NotChecked}

@@ -20,7 +20,8 @@ use Rattle.choice.specs.Pick.{if_then_else_}
 use Rattle.qcow2_spec.specs.Header.{clusterSize, clusters, perTable, perBlock, l1At}
 use Rattle.qcow2_spec.specs.Counts.{countAt, countOf}
 use Rattle.qcow2_spec.specs.Guest.{l1EntryAt}
-use Rattle.qcow2_spec.specs.Check.{figuresOf, repairUnits}
+use Rattle.qcow2_spec.specs.References.{figuresOf}
+use Rattle.qcow2_spec.specs.Check.{repairUnits}
 use Rattle.units.specs.Units.{UnitStore, entry, apply as applyU, applyAll as applyAllU, fill as fillU, cluster}
 use Rattle.qcow2_spec.specs.Counts.{setCount}
 use Rattle.units.specs.Plan.{storesCount}

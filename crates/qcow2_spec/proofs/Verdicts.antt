@@ -20,7 +20,8 @@ use Rattle.qcow2_spec.specs.Entries.{place, goodL1, goodL2}
 use Rattle.qcow2_spec.specs.Counts.{countOf}
 use Rattle.tally.specs.Tally.{occurrences, twice}
 use Rattle.tally.proofs.Laws.{figures-at}
-use Rattle.qcow2_spec.specs.Check.{l1Entries, l2Entries, figuresOf, short, over, references, l2Verdict, entryVerdict, l1Verdict, countsVerdict, verdict}
+use Rattle.qcow2_spec.specs.References.{l1Entries, l2Entries, figuresOf, references}
+use Rattle.qcow2_spec.specs.Check.{short, over, l2Verdict, entryVerdict, l1Verdict, countsVerdict, verdict}
 use Rattle.qcow2_spec.specs.Series.{Healthy, Bytes}
 use Rattle.qcow2_spec.specs.declared.Verdict.{Verdict}
 use Rattle.qcow2_spec.specs.declared.Verdict.the-variants.{Sound as IsSound, Leaks, BadL1, BadL2, Shared, Short}

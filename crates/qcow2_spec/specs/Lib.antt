@@ -1,5 +1,6 @@
 pub mod Header
 pub mod Entries
+pub mod References
 pub mod Counts
 pub mod Guest
 pub mod Store

@@ -13,7 +13,8 @@ use Rattle.tally.specs.Tally.{occurrences}
 use Rattle.qcow2_spec.specs.Header.{clusterSize, clusters, diskSize}
 use Rattle.qcow2_spec.specs.Counts.{countOf}
 use Rattle.qcow2_spec.specs.Guest.{guestByte, readNumber, readInto}
-use Rattle.qcow2_spec.specs.Check.{references, check}
+use Rattle.qcow2_spec.specs.References.{references}
+use Rattle.qcow2_spec.specs.Check.{check}
 use Rattle.qcow2_spec.specs.declared.Verdict.{Verdict}
 use Rattle.qcow2_spec.specs.declared.Verdict.the-variants.{Sound, Leaks, BadL1, BadL2, Shared, Short, Refused as NotChecked}
 use Rattle.qcow2_spec.specs.Disk.{Request, write, discard, repair, planOf, finished, Fed}
