@@ -1,0 +1,114 @@
+-- Laws of the verdict: by the counts where all entries are good, else by the first bad entry.
+-- Assumes nothing.
+use Prim.Native.Nat.{ℕ, suc, _≤_, _<_}
+use mathlib.Core.Path.{_≡_, refl, sym, ap, _∙_}
+use mathlib.Core.Bool.{Bool, true, false, not, _&&_, _||_, true≢false}
+use mathlib.Core.List.{List, [], _∷_}
+use borrow.Author.Tests.{lt-ltb, le-ltb}
+use lib.Dec.{eqb}
+use lib.ListN.{length, replicate}
+use Rattle.choice.specs.Pick.{if_then_else_, all, first, count}
+use Rattle.choice.proofs.Tests.{and-true}
+use Rattle.tally.specs.Tally.{bumpAll, joined, twice}
+use Rattle.tally.proofs.Laws.{bumpAll-append, tallied}
+use Rattle.qcow2_spec.specs.Header.{version, clusterSize, clusters}
+use Rattle.qcow2_spec.specs.Entries.{place, goodL1, goodL2}
+use Rattle.qcow2_spec.specs.References.{l1Entries, l2Entries, l1Refs, fixedRefs, references, figuresOf}
+use Rattle.qcow2_spec.specs.Check.{l2Verdict, entryVerdict, l1Verdict, tableGood, entryGood, short, over, countsVerdict, verdict}
+use Rattle.qcow2_spec.specs.declared.Verdict.{Verdict}
+use Rattle.qcow2_spec.specs.declared.Verdict.the-variants.{Sound, Leaks, BadL1, BadL2, Shared, Short}
+
+-- the verdict on the counts, in the code's order
+module _ (s fs : List ℕ) (N a low leaks : ℕ) (hN : N ≡ clusters s) (ha : a ≡ first (twice fs) 0 N) where
+  pub verdict-shared : a < N → Shared a ≡ countsVerdict s fs
+  unfolding countsVerdict
+  verdict-shared h = rw (← hN, ← ha, lt-ltb a N h)
+
+  pub verdict-short : N ≤ a → low ≡ first (short s fs) 0 N → low < N → Short low ≡ countsVerdict s fs
+  unfolding countsVerdict
+  verdict-short h e l = rw (← hN, ← ha, le-ltb a N h, ← e, lt-ltb low N l)
+
+  pub verdict-leaks : N ≤ a → low ≡ first (short s fs) 0 N → N ≤ low → leaks ≡ count (over s fs) 0 N → 0 < leaks → Leaks leaks ≡ countsVerdict s fs
+  unfolding countsVerdict
+  verdict-leaks h e l f g = rw (← hN, ← ha, le-ltb a N h, ← e, le-ltb low N l, ← f, lt-ltb 0 leaks g)
+
+  pub verdict-sound : N ≤ a → low ≡ first (short s fs) 0 N → N ≤ low → leaks ≡ count (over s fs) 0 N → leaks ≤ 0 → Sound ≡ countsVerdict s fs
+  unfolding countsVerdict
+  verdict-sound h e l f g = rw (← hN, ← ha, le-ltb a N h, ← e, le-ltb low N l, ← f, le-ltb 0 leaks g)
+
+-- where all entries are good nothing is found, and else it does not matter what comes after
+l2-all : (good : ℕ → Bool) (i j : ℕ) (es : List ℕ) (next : Verdict) → all good es ≡ true → l2Verdict good i j es next ≡ next
+unfolding l2Verdict
+l2-all good i j [] next h = refl
+l2-all good i j (e ∷ es) next h =
+    let k = and-true (good e) (all good es) h in
+    rw (k .0) (l2-all good i (suc j) es next (k .1))
+
+l2-some : (good : ℕ → Bool) (i j : ℕ) (es : List ℕ) (next next′ : Verdict) → all good es ≡ false → l2Verdict good i j es next ≡ l2Verdict good i j es next′
+unfolding l2Verdict
+l2-some good i j [] next next′ h = absurd (true≢false h)
+l2-some good i j (e ∷ es) next next′ h = go (good e) h (l2-some good i (suc j) es next next′)
+  where
+    go : (t : Bool) → (t && all good es) ≡ false → (all good es ≡ false → l2Verdict good i (suc j) es next ≡ l2Verdict good i (suc j) es next′)
+        → (if t then l2Verdict good i (suc j) es next else BadL2 i j) ≡ (if t then l2Verdict good i (suc j) es next′ else BadL2 i j)
+    go true g r = r g
+    go false g r = refl
+
+entry-all : (s : List ℕ) (i e : ℕ) (next : Verdict) → entryGood s e ≡ true → entryVerdict s i e next ≡ next
+unfolding entryGood entryVerdict tableGood
+entry-all s i e next h =
+    let k = and-true (goodL1 (clusterSize s) (length s) e) (eqb (place e) 0 || all (goodL2 (version s) (clusterSize s) (length s)) (l2Entries s (place e))) h in
+    rw (k .0) (go (eqb (place e) 0) (k .1))
+  where
+    go : (t : Bool) → (t || all (goodL2 (version s) (clusterSize s) (length s)) (l2Entries s (place e))) ≡ true
+        → (if t then next else l2Verdict (goodL2 (version s) (clusterSize s) (length s)) i 0 (l2Entries s (place e)) next) ≡ next
+    go true g = refl
+    go false g = l2-all (goodL2 (version s) (clusterSize s) (length s)) i 0 (l2Entries s (place e)) next g
+
+entry-some : (s : List ℕ) (i e : ℕ) (next next′ : Verdict) → entryGood s e ≡ false → entryVerdict s i e next ≡ entryVerdict s i e next′
+unfolding entryGood entryVerdict tableGood
+entry-some s i e next next′ h = go (goodL1 (clusterSize s) (length s) e) (eqb (place e) 0) h
+  where
+    L : ℕ → Bool
+    L = goodL2 (version s) (clusterSize s) (length s)
+
+    go : (g t : Bool) → (g && (t || all L (l2Entries s (place e)))) ≡ false
+        → (if not g then BadL1 i else if t then next else l2Verdict L i 0 (l2Entries s (place e)) next)
+        ≡ (if not g then BadL1 i else if t then next′ else l2Verdict L i 0 (l2Entries s (place e)) next′)
+    go false t k = refl
+    go true true k = absurd (true≢false k)
+    go true false k = l2-some L i 0 (l2Entries s (place e)) next next′ k
+
+pub rows-all : (s : List ℕ) (i : ℕ) (es : List ℕ) (next : Verdict) → all (entryGood s) es ≡ true → l1Verdict s i es next ≡ next
+unfolding l1Verdict
+rows-all s i [] next h = refl
+rows-all s i (e ∷ es) next h =
+    let k = and-true (entryGood s e) (all (entryGood s) es) h in
+    entry-all s i e (l1Verdict s (suc i) es next) (k .0) ∙ rows-all s (suc i) es next (k .1)
+
+pub rows-some : (s : List ℕ) (i : ℕ) (es : List ℕ) (next next′ : Verdict) → all (entryGood s) es ≡ false → l1Verdict s i es next ≡ l1Verdict s i es next′
+unfolding l1Verdict
+rows-some s i [] next next′ h = absurd (true≢false h)
+rows-some s i (e ∷ es) next next′ h = go (entryGood s e) refl h (rows-some s (suc i) es next next′)
+  where
+    go : (t : Bool) → entryGood s e ≡ t → (t && all (entryGood s) es) ≡ false
+        → (all (entryGood s) es ≡ false → l1Verdict s (suc i) es next ≡ l1Verdict s (suc i) es next′)
+        → entryVerdict s i e (l1Verdict s (suc i) es next) ≡ entryVerdict s i e (l1Verdict s (suc i) es next′)
+    go true k g r = ap (entryVerdict s i e) (r g)
+    go false k g r = entry-some s i e (l1Verdict s (suc i) es next) (l1Verdict s (suc i) es next′) k
+
+-- the scratch once everything is counted
+pub all-counted : (s : List ℕ) (N : ℕ) → N ≡ clusters s → bumpAll (joined (l1Refs s) (l1Entries s)) (bumpAll (fixedRefs s) (replicate N 0)) ≡ figuresOf s
+unfolding figuresOf references
+all-counted s N e =
+    let Z : List ℕ = replicate N 0 in
+    sym (bumpAll-append (fixedRefs s) (joined (l1Refs s) (l1Entries s)) Z) ∙ rw (← e) (tallied _ N)
+
+-- the verdict where all entries are good, and where some are not
+pub verdict-good : (s : List ℕ) → all (entryGood s) (l1Entries s) ≡ true → countsVerdict s (figuresOf s) ≡ verdict s
+unfolding verdict
+verdict-good s h = sym (rows-all s 0 (l1Entries s) (countsVerdict s (figuresOf s)) h)
+
+pub verdict-bad : (s : List ℕ) → all (entryGood s) (l1Entries s) ≡ false → l1Verdict s 0 (l1Entries s) Sound ≡ verdict s
+unfolding verdict
+verdict-bad s h = rows-some s 0 (l1Entries s) Sound (countsVerdict s (figuresOf s)) h

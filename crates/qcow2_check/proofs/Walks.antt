@@ -1,0 +1,107 @@
+-- Laws of tables whose references are counted entry by entry.
+-- Assumes nothing.
+use Prim.Native.Nat.{ℕ, _+_, _-_, _*_, _/_, _≤_, _<_}
+use mathlib.Core.Path.{_≡_, refl, sym, _∙_}
+use mathlib.Core.Bool.{Bool, true, false, _&&_, and-assoc, and-true}
+use mathlib.Core.List.{List}
+use native.Mathlib.Nat.{add-sub-cancel-left}
+use native.Mathlib.Omega.{arith}
+use borrow.Author.Tests.{eq-eqb, ne-eqb}
+use lib.ListN.{length, take, drop, length-drop}
+use lib.Seq.{length-take-le}
+use Rattle.choice.specs.Pick.{all}
+use Rattle.endian.specs.Big.{be64, entries}
+use Rattle.tally.specs.Tally.{bumped, bumpAll, joined}
+use Rattle.tally.proofs.Laws.{bumpAll-append}
+use Rattle.qcow2_spec.specs.Header.{version, clusterSize, perTable}
+use Rattle.qcow2_spec.specs.Entries.{place, goodPlace, goodL1, goodL2, compressed, zeroMark}
+use Rattle.qcow2_spec.specs.References.{named, l2Refs, l2Entries, tableRefs, l1Refs}
+use Rattle.qcow2_spec.specs.Check.{tableGood, entryGood}
+use Rattle.qcow2_check.specs.Known.{Walking}
+use Rattle.qcow2_check.proofs.Entries.{entries-turn, entries-none}
+
+-- what is to be counted from entry j of k on: entry j first; nothing at the end
+module _ (f : ℕ → List ℕ) (k j : ℕ) (t : List ℕ) where
+  pub refs-turn : j < k → (s : List ℕ)
+      → bumpAll (joined f (entries (k - j) (drop (8 * j) t))) s
+      ≡ bumpAll (joined f (entries (k - (j + 1)) (drop (8 * (j + 1)) t))) (bumpAll (f (be64 t (8 * j))) s)
+  refs-turn h s = rw (entries-turn k j t h) (bumpAll-append (f (be64 t (8 * j))) _ s)
+
+  pub refs-end : k ≤ j → (s : List ℕ) → bumpAll (joined f (entries (k - j) (drop (8 * j) t))) s ≡ s
+  unfolding bumpAll
+  refs-end h s = rw (entries-none k j t h)
+
+-- a walk at first, after an entry more, and at the end
+pub walking-first : {f : ℕ → List ℕ} {p : ℕ → Bool} {es s : List ℕ} → Walking f p es s es s true
+walking-first = record { counted = refl; tested = refl }
+
+module _ {f : ℕ → List ℕ} {p : ℕ → Bool} {es₀ s₀ : List ℕ} (k j : ℕ) (t : List ℕ) {s : List ℕ} {good : Bool} (w : Walking f p es₀ s₀ (entries (k - j) (drop (8 * j) t)) s good) where
+  pub walking-next : {s′ : List ℕ} {good′ : Bool} → j < k → s′ ≡ bumpAll (f (be64 t (8 * j))) s → good′ ≡ (good && p (be64 t (8 * j)))
+      → Walking f p es₀ s₀ (entries (k - (j + 1)) (drop (8 * (j + 1)) t)) s′ good′
+  walking-next h e g = record {
+    counted = rw e (sym (refs-turn f k j t h s) ∙ w .counted);
+    tested = rw (g, and-assoc) (rw (entries-turn k j t h) at (w .tested));
+  }
+
+  pub walking-last : k ≤ j → (good ≡ all p es₀) × (s ≡ bumpAll (joined f es₀) s₀)
+  walking-last h = (sym (and-true good) ∙ (rw (entries-none k j t h) at (w .tested)), sym (refs-end f k j t h s) ∙ w .counted)
+
+-- what a place names, and what an L2 entry refers to
+pub named-none : (C p : ℕ) (s : List ℕ) → p ≡ 0 → s ≡ bumpAll (named C p) s
+unfolding named bumpAll
+named-none C p s e = rw (eq-eqb p 0 e)
+
+pub named-some : (C p : ℕ) (s : List ℕ) → (p ≡ 0 → ⊥) → bumped s (p / C) ≡ bumpAll (named C p) s
+unfolding named bumpAll
+named-some C p s e = rw (ne-eqb p 0 e)
+
+pub refs-good : (v C n e : ℕ) → goodL2 v C n e ≡ true → l2Refs v C n e ≡ named C (place e)
+unfolding l2Refs
+refs-good v C n e h = rw h
+
+pub refs-bad : (v C n e : ℕ) (s : List ℕ) → goodL2 v C n e ≡ false → s ≡ bumpAll (l2Refs v C n e) s
+unfolding l2Refs bumpAll
+refs-bad v C n e s h = rw h
+
+-- an entry of zeros is good and refers to nothing
+pub zero-good : (v C n : ℕ) → goodL2 v C n 0 ≡ true
+unfolding goodL2 goodPlace compressed zeroMark place
+zero-good v C n = refl
+
+pub zero-refs : (v C n : ℕ) (s : List ℕ) → s ≡ bumpAll (l2Refs v C n 0) s
+unfolding l2Refs named place bumpAll
+zero-refs v C n s = rw (zero-good v C n)
+
+-- a part from p to p + c, as the code lends it
+pub part-of : (s : List ℕ) (p c C : ℕ) → c ≡ C → take (p + c - p) (drop p s) ≡ take C (drop p s)
+part-of s p c C e = rw (e, add-sub-cancel-left)
+
+-- the L2 table at p, handed on as a part of the image
+module _ (s : List ℕ) (v C p : ℕ) (T : List ℕ) (hv : v ≡ version s) (hC : C ≡ clusterSize s) (fits : p + C ≤ length s) (hT : T ≡ take C (drop p s)) where
+  part-entries : entries (length T / 8) T ≡ l2Entries s p
+  unfolding l2Entries perTable
+  part-entries =
+      let l : length T ≡ clusterSize s = rw (hT, ← hC) (length-take-le C (drop p s) (simp length-drop (omega arith))) in
+      rw (l, hT, hC)
+
+  pub below-good : all (goodL2 v C (length s)) (entries (length T / 8) T) ≡ tableGood s p
+  unfolding tableGood
+  below-good = rw (part-entries, hv, hC)
+
+  pub below-refs : (S : List ℕ) → bumpAll (joined (l2Refs v C (length s)) (entries (length T / 8) T)) (bumped S (p / C)) ≡ bumpAll (tableRefs s p) S
+  unfolding tableRefs bumpAll
+  below-refs S = rw (part-entries, hv, hC)
+
+-- an L1 entry: bad, with no table, or with one
+module _ (s : List ℕ) (C e : ℕ) (hC : C ≡ clusterSize s) where
+  pub row-bad : (S : List ℕ) → goodL1 C (length s) e ≡ false → (false ≡ entryGood s e) × (S ≡ bumpAll (l1Refs s e) S)
+  unfolding entryGood l1Refs bumpAll
+  row-bad S h = let k : goodL1 (clusterSize s) (length s) e ≡ false = rw hC at h in (rw k, rw k)
+
+  pub row-none : (S : List ℕ) → goodL1 C (length s) e ≡ true → place e ≡ 0 → (true ≡ entryGood s e) × (S ≡ bumpAll (l1Refs s e) S)
+  unfolding entryGood l1Refs bumpAll
+  row-none S h z = let k : goodL1 (clusterSize s) (length s) e ≡ true = rw hC at h in (rw (k, eq-eqb (place e) 0 z), rw (k, eq-eqb (place e) 0 z))
+
+  pub row-some : goodL1 C (length s) e ≡ true → (place e ≡ 0 → ⊥) → (tableGood s (place e) ≡ entryGood s e) × (tableRefs s (place e) ≡ l1Refs s e)
+  unfolding entryGood l1Refs
+  row-some h z = let k : goodL1 (clusterSize s) (length s) e ≡ true = rw hC at h in (rw (k, ne-eqb (place e) 0 z), rw (k, ne-eqb (place e) 0 z))

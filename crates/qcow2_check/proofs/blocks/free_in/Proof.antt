@@ -1,0 +1,55 @@
+use borrow.Author.Needs.{needs}
+use native.Mathlib.Omega.{arith}
+use Prim.Native.Nat.{_*_, _^_, _≤_}
+use mathlib.Core.Path.{_≡_, _∙_}
+use lib.ListN.{length, length-drop, take, drop}
+use lib.Seq.{length-take-le}
+use denote.Ref.{now}
+use Rattle.choice.proofs.Searches.{count-most}
+use Rattle.qcow2_check.specs.Known.{zeroAt}
+use Rattle.qcow2_check.proofs.Stored.{block-free, per-is}
+use Rattle.qcow2_check.proofs.Walks.{part-of}
+use Rattle.qcow2_check.proofs.blocks.free_in.Statement.{statement}
+use Rattle.qcow2_check.proofs.blocks.free_in.Tie as tie
+
+block-at-requires : tie.Need-block-at-requires
+block-at-requires c κs = let b = c .before in (b .pre .0, b .pre .1 .0)
+
+-- the counts stand in the block
+room : (c : tie.After-power) → 2 * c .before .before .before .args .m ≤ 2 ^ c .before .before .before .args .g .bits
+room c =
+    let b = c .before .before .before in
+    omega (arith, per-is (b .pre .0) (c .power .result) (c .power .ensures .0), c .power .ensures .0, b .pre .1 .1)
+
+zeros-in-requires : tie.Need-zeros-in-requires
+zeros-in-requires c κs =
+    let w = c .before in
+    let p = w .before .block-at in
+    let a = w .before .before .before .args in
+    let s = now (a .image) in
+    let l : length (take (2 ^ a .g .bits) (drop (p .result) s)) ≡ 2 ^ a .g .bits = length-take-le (2 ^ a .g .bits) (drop (p .result) s) (simp length-drop (omega (arith, p .ensures .1))) in
+    rw (part-of s (p .result) (w .power .result) (2 ^ a .g .bits) (w .power .ensures .0), l) (room w)
+
+returns : tie.Need-returns
+returns c =
+    let w = c .before .before in
+    let p = w .before .block-at in
+    let b = w .before .before .before in
+    let a = b .args in
+    let s = now (a .image) in
+    let e = part-of s (p .result) (w .power .result) (2 ^ a .g .bits) (w .power .ensures .0) in
+    let z = c .zeros-in .ensures in
+    (z ∙ block-free s _ (2 ^ a .g .bits) (a .b) (p .result) (a .m) e (p .ensures .0) (room w) (b .pre .1 .1), rw z (count-most (zeroAt _) 0 (a .m)))
+
+pub free-in-spec : {M : Type 1} → statement M
+free-in-spec =
+    tie.close
+    (tie.spec
+    block-at-requires
+    (search needs)
+    (search needs)
+    (search needs)
+    (search needs)
+    (search needs)
+    zeros-in-requires
+    returns)

@@ -1,0 +1,63 @@
+use borrow.Author.Needs.{needs}
+use Prim.Native.Nat.{_^_, _-_, _*_, _≤_, _/_}
+use mathlib.Core.Path.{_≡_, refl, _∙_}
+use lib.ListN.{length, drop}
+use denote.Ref.{now}
+use Rattle.endian.specs.Big.{entries}
+use Rattle.qcow2_spec.specs.Entries.{goodL2}
+use Rattle.qcow2_spec.specs.References.{l2Refs}
+use Rattle.qcow2_check.specs.Known.{Walking}
+use Rattle.qcow2_check.proofs.Walks.{walking-first, walking-next, walking-last}
+use Rattle.qcow2_check.proofs.walk.walk_table.Statement.{statement}
+use Rattle.qcow2_check.proofs.walk.walk_table.Tie as tie
+
+abbrev Inv-loop : tie.InvT-loop
+Inv-loop table scratch₀ version bits n per good₀ j₀ scratch good j =
+    (j ≤ per) × (length scratch ≡ length scratch₀) × Walking (l2Refs version (2 ^ bits) n) (goodL2 version (2 ^ bits) n) (entries (per - j₀) (drop (8 * j₀) table)) scratch₀ (entries (per - j) (drop (8 * j) table)) scratch good
+
+abbrev μ-loop : tie.MeasureT-loop
+μ-loop table scratch₀ version bits n per good₀ j₀ scratch good j = per - j
+
+loop-holds : tie.Need-loop-holds Inv-loop μ-loop
+loop-holds c = (c .before .before .walk-plain .ensures .0, refl, walking-first)
+
+walk-entry-requires : tie.Need-walk-entry-requires Inv-loop μ-loop
+walk-entry-requires c κs =
+    let t = c .before .before .before in
+    let p = t .before .before .before .before .before .before .before .pre in
+    record { low = p .low; high = p .high; some = p .some; small = p .small; fits = rw (t .loop .inv .1 ∙ t .before .before .before .walk-plain .kept .1 .0) (p .fits) }
+
+loop-again : tie.Need-loop-again Inv-loop μ-loop
+loop-again c =
+    let w = c .before .before .before in
+    let l = w .before .before in
+    let t = l .before .before in
+    let T = now (t .before .before .before .before .before .before .before .args .table) in
+    let r = w .walk-entry .ensures in
+    (search needs, search needs, walking-next (length T / 8) (t .loop .j) T (t .loop .inv .2) (l .before .loop-test .taken) (rw (← l .load64 .ensures) (r .1)) (rw (← l .load64 .ensures, ← r .0) (c .both .ensures)))
+
+returns : tie.Need-returns Inv-loop μ-loop
+returns c =
+    let t = c .before in
+    let w = t .before .before .before .walk-plain .ensures .1 in
+    let T = now (t .before .before .before .before .before .before .before .args .table) in
+    let g = walking-last (length T / 8) (t .loop .j) T (t .loop .inv .2) (c .loop-test .left) in
+    (g .0 ∙ w .tested, g .1 ∙ w .counted)
+
+pub walk-table-spec : {M : Type 1} → statement M
+walk-table-spec =
+    tie.close
+    (tie.spec
+    Inv-loop
+    μ-loop
+    (search needs)
+    loop-holds
+    (search needs)
+    (search needs)
+    walk-entry-requires
+    (search needs)
+    (search needs)
+    (search needs)
+    loop-again
+    (search needs)
+    returns)

@@ -1,0 +1,74 @@
+// The stored counts against the scratch's figures.
+ghost use mathlib.Core.Path.{_≡_};
+ghost use Prim.Native.Nat.{_+_, _≤_};
+ghost use lib.ListN.{length};
+ghost use Rattle.tally.specs.Tally.{Counting};
+ghost use Rattle.qcow2_spec.specs.Check.{short, over, countsVerdict};
+ghost use Rattle.qcow2_spec.specs.Opened.{Opened};
+ghost use Rattle.qcow2_check.specs.Known.{Block};
+use crate::blocks;
+use qcow2_spec::Geometry;
+use qcow2_spec::Verdict;
+use tally::Counted;
+
+// The m clusters from base on, whose counts stand from a place on.
+fn judge_block(
+    c: Counted,
+    image: &[u8],
+    scratch: &[u8],
+    at: usize,
+    base: usize,
+    m: usize,
+) -> Counted
+    requires { ⌜ Block (now image) base m at × (((base + m ≤ length (now scratch)) × (length (now scratch) ≤ 67108864)) × Counting (short (now image) (now scratch)) (over (now image) (now scratch)) (length (now scratch)) base c) ⌝ }
+    ensures { λ r. ⌜ Counting (short (now (image .entry)) (now (scratch .entry))) (over (now (image .entry)) (now (scratch .entry))) (length (now (scratch .entry))) (base + m) r ⌝ }
+{
+    let clusters = scratch.len();
+    let mut d = c;
+    let mut j = 0;
+    while j < m {
+        let stored = endian::load16(image, at + 2 * j);
+        d = tally::against::count_one(d, base + j, stored, scratch[base + j], clusters);
+        j += 1;
+    }
+    d
+}
+
+// All clusters, block by block.
+fn judge_blocks(image: &[u8], scratch: &[u8], g: Geometry) -> Counted
+    requires { ⌜ Opened g (now image) × (length (now scratch) ≡ g .clusters) ⌝ }
+    ensures { λ r. ⌜ Counting (short (now (image .entry)) (now (scratch .entry))) (over (now (image .entry)) (now (scratch .entry))) (g .clusters) (g .clusters) r ⌝ }
+{
+    let per = (power::power(g.bits) / 2) as usize;
+    let n = scratch.len();
+    let mut d = Counted { low: n, over: 0 };
+    let mut b = 0;
+    let mut k = 0;
+    while k < n {
+        let at = blocks::block_at(image, b, g);
+        let m = power::lesser(per, n - k);
+        d = judge_block(d, image, scratch, at, k, m);
+        k += m;
+        b += 1;
+    }
+    d
+}
+
+// The verdict where no entry is bad: shared before short before leaking.
+pub(crate) fn judge_counts(image: &[u8], scratch: &[u8], g: Geometry) -> Verdict
+    requires { ⌜ Opened g (now image) × (length (now scratch) ≡ g .clusters) ⌝ }
+    ensures { λ r. ⌜ r ≡ countsVerdict (now (image .entry)) (now (scratch .entry)) ⌝ }
+{
+    let shared = tally::lowest_shared(scratch);
+    if shared < scratch.len() {
+        return Verdict::Shared(shared);
+    }
+    let d = judge_blocks(image, scratch, g);
+    if d.low < scratch.len() {
+        return Verdict::Short(d.low);
+    }
+    if 0 < d.over {
+        return Verdict::Leaks(d.over);
+    }
+    Verdict::Sound
+}

@@ -1,0 +1,64 @@
+// The check of an accepted image, and the number of its free clusters.
+ghost use mathlib.Core.Path.{_≡_};
+ghost use Prim.Native.Nat.{_≤_};
+ghost use lib.ListN.{length};
+ghost use Rattle.choice.specs.Pick.{all};
+ghost use Rattle.qcow2_spec.specs.Counts.{free};
+ghost use Rattle.qcow2_spec.specs.References.{l1Entries, figuresOf, scratchAfter};
+ghost use Rattle.qcow2_spec.specs.Check.{entryGood, verdict};
+ghost use Rattle.qcow2_spec.specs.Opened.{Opened};
+use qcow2_spec::Geometry;
+use qcow2_spec::Verdict;
+
+pub mod blocks;
+pub mod counts;
+pub mod fixed;
+pub mod search;
+pub mod walk;
+
+// The state of a walk over the L1 table: the next entry, and whether all so far were good.
+pub struct Progress {
+    pub row: usize,
+    pub good: bool,
+}
+
+// Counts all references in a scratch of one byte for each cluster, and says whether all entries are good.
+fn count_all(image: &[u8], scratch: &mut [u8], g: Geometry) -> bool
+    requires { ⌜ Opened g (now image) × (length (now scratch) ≡ g .clusters) ⌝ }
+    ensures { λ r. ⌜ (r ≡ all (entryGood (now (image .entry))) (l1Entries (now (image .entry)))) × (now (scratch .exit) ≡ figuresOf (now (image .entry))) ⌝ }
+{
+    fixed::count_fixed(image, scratch, g);
+    walk::walk_rows(image, scratch, g)
+}
+
+// The verdict on an accepted image. The scratch's first bytes end as the references, one byte for each cluster.
+pub fn check(image: &[u8], scratch: &mut [u8], g: Geometry) -> Verdict
+    requires { ⌜ Opened g (now image) × (g .clusters ≤ length (now scratch)) ⌝ }
+    ensures { λ r. ⌜ (r ≡ verdict (now (image .entry))) × (now (scratch .exit) ≡ scratchAfter (now (image .entry)) (now (scratch .entry))) ⌝ }
+{
+    let n = g.clusters;
+    let good = count_all(image, &mut scratch[..n], g);
+    if good {
+        return counts::judge_counts(image, &scratch[..n], g);
+    }
+    search::first_bad(image, g)
+}
+
+// The clusters of an accepted image whose stored count is 0.
+pub fn free_clusters(image: &[u8], g: Geometry) -> usize
+    requires { ⌜ Opened g (now image) ⌝ }
+    ensures { λ r. ⌜ r ≡ free (now (image .entry)) ⌝ }
+{
+    let per = (power::power(g.bits) / 2) as usize;
+    let n = g.clusters;
+    let mut found = 0;
+    let mut b = 0;
+    let mut k = 0;
+    while k < n {
+        let m = power::lesser(per, n - k);
+        found += blocks::free_in(image, b, m, g);
+        k += m;
+        b += 1;
+    }
+    found
+}

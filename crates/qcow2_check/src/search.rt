@@ -1,0 +1,85 @@
+// The first bad entry.
+ghost use mathlib.Core.Path.{_≡_};
+ghost use mathlib.Core.Bool.{false, not};
+ghost use Prim.Native.Nat.{_+_, _*_, _^_, _≤_, _<_};
+ghost use lib.ListN.{length};
+ghost use Rattle.endian.specs.Big.{be64};
+ghost use Rattle.qcow2_spec.specs.Entries.{goodL2};
+ghost use Rattle.qcow2_spec.specs.References.{l1Entries};
+ghost use Rattle.qcow2_spec.specs.Check.{l1Verdict};
+ghost use Rattle.qcow2_spec.specs.Opened.{Opened};
+ghost use Rattle.qcow2_spec.specs.declared.Verdict.the-variants.{Sound};
+ghost use Rattle.qcow2_check.specs.Known.{rowBad, belowCount, belowBad};
+use qcow2_spec::Geometry;
+use qcow2_spec::Verdict;
+
+// Whether L1 entry i is bad.
+fn row_bad(image: &[u8], i: usize, g: Geometry) -> bool
+    requires { ⌜ Opened g (now image) × (i < g .rows) ⌝ }
+    ensures { λ r. ⌜ r ≡ rowBad (now (image .entry)) i ⌝ }
+{
+    let e = endian::load64(image, g.l1 + 8 * i);
+    !qcow2_entry::good_l1(e, image.len() as u64, g.bits)
+}
+
+// How many L2 entries stand below L1 entry i.
+fn below_count(image: &[u8], i: usize, g: Geometry) -> usize
+    requires { ⌜ Opened g (now image) × (i < g .rows) ⌝ }
+    ensures { λ r. ⌜ r ≡ belowCount (now (image .entry)) i ⌝ }
+{
+    if qcow2_entry::place_of(endian::load64(image, g.l1 + 8 * i)) == 0 {
+        return 0;
+    }
+    (power::power(g.bits) / 8) as usize
+}
+
+// Whether entry j of an L2 table is bad.
+fn entry_bad(table: &[u8], j: usize, version: u32, bits: u32, n: u64) -> bool
+    requires { ⌜ (bits ≤ 16) × (8 * j + 8 ≤ length (now table)) ⌝ }
+    ensures { λ r. ⌜ r ≡ not (goodL2 version (2 ^ bits) n (be64 (now (table .entry)) (8 * j))) ⌝ }
+{
+    !qcow2_entry::good_l2(endian::load64(table, 8 * j), version, n, bits)
+}
+
+// Whether entry j of the L2 table below L1 entry i is bad.
+fn below_bad(image: &[u8], i: usize, j: usize, g: Geometry) -> bool
+    requires { ⌜ Opened g (now image) × ((i < g .rows) × ((rowBad (now image) i ≡ false) × (j < belowCount (now image) i))) ⌝ }
+    ensures { λ r. ⌜ r ≡ belowBad (now (image .entry)) i j ⌝ }
+{
+    let p = qcow2_entry::place_of(endian::load64(image, g.l1 + 8 * i)) as usize;
+    let c = power::power(g.bits) as usize;
+    entry_bad(&image[p..p + c], j, g.version, g.bits, image.len() as u64)
+}
+
+// The first bad entry: L1 entry by L1 entry, each before its L2 entries. Sound where there is none.
+pub(crate) fn first_bad(image: &[u8], g: Geometry) -> Verdict
+    requires { ⌜ Opened g (now image) ⌝ }
+    ensures { λ r. ⌜ r ≡ l1Verdict (now (image .entry)) 0 (l1Entries (now (image .entry))) Sound ⌝ }
+{
+    let rows = g.rows;
+    let mut i = 0;
+    let mut j = 0;
+    let mut below = false;
+    'outer: while i < rows {
+        if row_bad(image, i, g) {
+            break 'outer;
+        }
+        let end = below_count(image, i, g);
+        j = 0;
+        while j < end {
+            if below_bad(image, i, j, g) {
+                below = true;
+                break 'outer;
+            }
+            j += 1;
+        }
+        i += 1;
+    }
+    if below {
+        return Verdict::BadL2(i, j);
+    }
+    if i < rows {
+        return Verdict::BadL1(i);
+    }
+    Verdict::Sound
+}

@@ -1,0 +1,5 @@
+pub mod Ready
+pub mod Steps
+pub mod Numbers
+pub mod Pieces
+pub mod Filling

@@ -1,0 +1,104 @@
+-- The number of a read: of the ways that it takes, and of its range.
+-- Assumes nothing.
+use Prim.Native.Nat.{ℕ, zero, suc, _+_, _-_, _*_, _/_, _^_, _≤_, _<_}
+use native.Mathlib.Nat.{div-lt-iff-lt-mul, div-le-self, mod-lt, div-add-mod', not-suc-le-zero}
+use native.Mathlib.Omega.{arith}
+use mathlib.Core.Path.{_≡_, refl}
+use mathlib.Core.List.{List}
+use borrow.Author.Tests.{eq-eqb, ne-eqb, lt-ltb, le-ltb}
+use lib.ListN.{length}
+use Rattle.choice.specs.Pick.{unless}
+use Rattle.choice.proofs.Tests.{if-zero}
+use Rattle.qcow2_spec.specs.Header.{clusterSize, diskSize, l1Size, perTable}
+use Rattle.qcow2_spec.specs.Guest.{way, wayNumber, waysNumber, outside, touched, guestBytes, readNumber, readInto}
+use Rattle.qcow2_spec.specs.Opened.{Opened}
+use Rattle.qcow2_spec.specs.declared.Geometry.{Geometry}
+use Rattle.qcow2_spec.proofs.Facts.{facts, c-pos, e-pos}
+use Rattle.qcow2_spec.proofs.Ways.{inside}
+
+-- ---- the ways to k guest clusters, i of which are passed
+turn : (i k : ℕ) → i < k → k - i ≡ suc (k - (i + 1))
+turn i k h = omega arith
+
+nonzero : (n r : ℕ) → (n ≡ 0 → ⊥) → unless n (λ k. k) r ≡ n
+nonzero zero r h = absurd (h refl)
+nonzero (suc n) r h = refl
+
+module _ (s : List ℕ) (guest k i : ℕ) where
+  pub ways-stop : i < k → (wayNumber (way s (guest + i)) ≡ 0 → ⊥) → waysNumber s (guest + i) (k - i) ≡ wayNumber (way s (guest + i))
+  unfolding waysNumber
+  ways-stop h n = rw (turn i k h) (nonzero (wayNumber (way s (guest + i))) _ n)
+
+  pub ways-next : i < k → wayNumber (way s (guest + i)) ≡ 0 → waysNumber s (guest + i) (k - i) ≡ waysNumber s (guest + (i + 1)) (k - (i + 1))
+  unfolding waysNumber
+  ways-next h n = let e : suc (guest + i) ≡ guest + (i + 1) = omega arith in rw (turn i k h, n, e)
+
+  pub ways-end : k ≤ i → waysNumber s (guest + i) (k - i) ≡ 0
+  unfolding waysNumber
+  ways-end h = let e : k - i ≡ 0 = omega arith in rw e
+
+-- ---- the guest clusters that a range touches
+pub div-mono : (C x y : ℕ) → 0 < C → x ≤ y → x / C ≤ y / C
+div-mono C x y p h =
+    let f : x / C < y / C + 1 = div-lt-iff-lt-mul p .1 (omega (arith, div-add-mod' y C, mod-lt y p)) in omega arith
+
+pub touched-none : (C x : ℕ) → touched C x 0 ≡ 0
+unfolding touched
+touched-none C x = refl
+
+pub touched-some : (C x len : ℕ) → 0 < len → touched C x len ≡ (x + (len - 1)) / C + 1 - x / C
+unfolding touched
+touched-some C x zero h = absurd (not-suc-le-zero h)
+touched-some C x (suc l) h = let e : suc l - 1 ≡ l = omega arith in rw e
+
+pub touched-most : (C x len : ℕ) → x / C + touched C x len ≤ x + len
+unfolding touched
+touched-most C x zero = omega (arith, div-le-self x C)
+touched-most C x (suc l) = omega (arith, div-le-self x C, div-le-self (x + l) C)
+
+touched-below : (C x len m : ℕ) → 0 < C → x + len ≤ m * C → x / C + touched C x len ≤ m
+unfolding touched
+touched-below C x zero m p h =
+    let f : x / C < m + 1 = div-lt-iff-lt-mul p .1 (omega arith) in omega arith
+touched-below C x (suc l) m p h =
+    let f : (x + l) / C < m = div-lt-iff-lt-mul p .1 (omega arith) in omega (arith, div-mono C x (x + l) p (omega arith))
+
+-- ---- a range on the disk
+module _ (g : Geometry) (s : List ℕ) (o : Opened g s) where
+  -- a guest cluster that the L1 table reaches
+  pub row-of : (guest : ℕ) → guest < l1Size s * perTable s → guest / perTable s < l1Size s
+  row-of guest h = div-lt-iff-lt-mul (e-pos s (facts s (o .accepted))) .1 h
+
+  module _ (x len : ℕ) where
+    pub number-offset : g .size < x → readNumber s x len ≡ 11
+    unfolding readNumber outside
+    number-offset h = rw (o .accepted, ← o .is-size, lt-ltb (g .size) x h)
+
+    pub number-range : x ≤ g .size → g .size - x < len → readNumber s x len ≡ 11
+    unfolding readNumber outside
+    number-range h n = rw (o .accepted, ← o .is-size, le-ltb (g .size) x h, lt-ltb (g .size - x) len n)
+
+    pub number-ways : x ≤ g .size → len ≤ g .size - x → readNumber s x len ≡ waysNumber s (x / 2 ^ g .bits) (touched (2 ^ g .bits) x len)
+    unfolding readNumber outside
+    number-ways h n = rw (o .accepted, ← o .is-size, le-ltb (g .size) x h, le-ltb (g .size - x) len n, o .is-cluster)
+
+    -- the L1 table reaches each guest cluster that the range touches
+    pub range-in : x + len ≤ g .size → x / 2 ^ g .bits + touched (2 ^ g .bits) x len ≤ l1Size s * perTable s
+    range-in h =
+        let f = facts s (o .accepted) in
+        rw (o .is-cluster) (touched-below (clusterSize s) x len (l1Size s * perTable s) (c-pos s f) (omega (arith, f .reach, o .is-size)))
+
+    -- an accepted range lies on the disk
+    pub number-fits : readNumber s x len ≡ 0 → x + len ≤ diskSize s
+    unfolding readNumber
+    number-fits e = inside s (facts s (o .accepted)) x len (if-zero (outside s x len) 10 _ (rw (o .accepted) at e) .0)
+
+-- ---- what a read leaves in its output
+module _ (s : List ℕ) (x : ℕ) (out : List ℕ) where
+  pub into-refused : (readNumber s x (length out) ≡ 0 → ⊥) → readInto s x out ≡ out
+  unfolding readInto
+  into-refused h = rw (ne-eqb (readNumber s x (length out)) 0 h)
+
+  pub into-done : readNumber s x (length out) ≡ 0 → readInto s x out ≡ guestBytes s x (length out)
+  unfolding readInto
+  into-done h = rw (eq-eqb (readNumber s x (length out)) 0 h)

@@ -1,0 +1,137 @@
+-- The disk's bytes inside one guest cluster.
+-- Assumes nothing.
+use Prim.Native.Nat.{ℕ, _+_, _-_, _*_, _/_, _%_, _^_, _≤_, _<_, min}
+use native.Mathlib.Nat.{div-add-mod', div-eq-of-lt-le, mod-lt}
+use native.Mathlib.Omega.{arith}
+use mathlib.Core.Path.{_≡_, refl, sym, ap, _∙_}
+use mathlib.Core.Bool.{Bool, true, false}
+use mathlib.Core.List.{List, [], _∷_}
+use mathlib.Core.Logic.{⊎-elim}
+use denote.Enum.Declared.{tagOf}
+use types.Run.{OneOf}
+use borrow.Author.Tests.{leb-false}
+use lib.Dec.{eqb, leb}
+use lib.ListN.{length, getD, take, drop, replicate, length-replicate, getD-replicate, length-drop}
+use lib.Seq.{getD-take, getD-drop, length-take-le, take-all}
+use Rattle.choice.specs.Pick.{if_then_else_}
+use Rattle.choice.proofs.Each.{each-list}
+use Rattle.endian.specs.Big.{part, splice}
+use Rattle.endian.proofs.Laws.{splice-whole}
+use Rattle.qcow2_spec.specs.Header.{clusterSize, diskSize}
+use Rattle.qcow2_spec.specs.Entries.{place, zeroMark}
+use Rattle.qcow2_spec.specs.Guest.{way, entryGives, wayGives, located, translate, foundByte, guestByte, guestBytes, foundPart, inPlace}
+use Rattle.qcow2_spec.specs.Opened.{Opened}
+use Rattle.qcow2_spec.specs.declared.Geometry.{Geometry}
+use Rattle.qcow2_spec.specs.declared.Found.{Found}
+use Rattle.qcow2_spec.specs.declared.Found.the-variants.{Host, Zeros, Absent, Refused}
+use Rattle.qcow2_spec.specs.declared.Way.{Way}
+use Rattle.qcow2_spec.specs.declared.Way.the-variants.{Bad, NoTable, Slot}
+use Rattle.qcow2_spec.proofs.Found.{the-type}
+use Rattle.qcow2_spec.proofs.Facts.{facts, c-pos}
+use Rattle.qcow2_spec.proofs.Refers.{placed2}
+use Rattle.qcow2_guest.specs.Ready.{Ready}
+use Rattle.qcow2_guest.proofs.Ready.{reached, way-ready}
+
+-- ---- i bytes on in the same cluster of C bytes
+same-cluster : (C x i : ℕ) → x % C + i < C → (x + i) / C ≡ x / C
+same-cluster C x i h = let a = div-add-mod' x C in div-eq-of-lt-le C (omega arith) (omega arith)
+
+same-rest : (C x i : ℕ) → x % C + i < C → (x + i) % C ≡ x % C + i
+same-rest C x i h =
+    let e : (x + i) / C * C ≡ x / C * C = ap (λ (q : ℕ). q * C) (same-cluster C x i h) in
+    omega (arith, div-add-mod' x C, div-add-mod' (x + i) C)
+
+-- what lies i bytes on
+abbrev pub moved : Found → ℕ → Found
+moved (Host h) i = Host (h + i)
+moved Zeros i = Zeros
+moved Absent i = Absent
+moved (Refused k) i = Refused k
+
+entry-moved : (a b : Bool) (p o i : ℕ) → (if a then Zeros else if b then Absent else Host (p + (o + i))) ≡ moved (if a then Zeros else if b then Absent else Host (p + o)) i
+entry-moved true b p o i = refl
+entry-moved false true p o i = refl
+entry-moved false false p o i = ap Host (omega arith)
+
+way-moved : (w : Way) (o i : ℕ) → wayGives w (o + i) ≡ moved (wayGives w o) i
+unfolding wayGives entryGives
+way-moved (Bad k) o i = refl
+way-moved NoTable o i = refl
+way-moved (Slot a e) o i = entry-moved (zeroMark e) (eqb (place e) 0) (place e) o i
+
+byte-moved : (s : List ℕ) (x i : ℕ) → x % clusterSize s + i < clusterSize s → guestByte s (x + i) ≡ foundByte s (moved (located s x) i)
+unfolding guestByte located
+byte-moved s x i h =
+    rw (same-cluster (clusterSize s) x i h, same-rest (clusterSize s) x i h, way-moved (way s (x / clusterSize s)) (x % clusterSize s) i)
+
+-- what the arm `_` after `Host` is told
+abbrev Other : Found → Type 0
+Other f = OneOf (1 ∷ 2 ∷ 3 ∷ []) (tagOf the-type f)
+
+no-host : (h : ℕ) → Other (Host h) → ⊥
+no-host h t = ⊎-elim (λ e. omega arith) (λ u. ⊎-elim (λ e. omega arith) (λ e. omega arith) u) t
+
+pub other-byte : (s : List ℕ) (f : Found) → Other f → (i : ℕ) → foundByte s (moved f i) ≡ 0
+unfolding foundByte
+other-byte s (Host h) t i = absurd (no-host h t)
+other-byte s Zeros t i = refl
+other-byte s Absent t i = refl
+other-byte s (Refused k) t i = refl
+
+pub other-part : (s : List ℕ) (x : ℕ) (f : Found) → Other f → foundPart s x f ≡ []
+unfolding foundPart
+other-part s x (Host h) t = absurd (no-host h t)
+other-part s x Zeros t = refl
+other-part s x Absent t = refl
+other-part s x (Refused k) t = refl
+
+host-is : (a b : Bool) (p o h : ℕ) → (if a then Zeros else if b then Absent else Host (p + o)) ≡ Host h → h ≡ p + o
+host-is true b p o h e = absurd (let z : _≡_ {A = ℕ} 0 1 = cc in omega arith)
+host-is false true p o h e = absurd (let z : _≡_ {A = ℕ} 0 1 = cc in omega arith)
+host-is false false p o h e = cc
+
+module _ (g : Geometry) (s : List ℕ) (o : Opened g s) (x : ℕ) where
+  -- a host offset lies in the image, with the rest of its cluster
+  pub host-in : (h : ℕ) → x < diskSize s → located s x ≡ Host h → h + (2 ^ g .bits - x % 2 ^ g .bits) ≤ length s
+  unfolding located wayGives entryGives
+  host-in h l e = rw (o .is-cluster) (go (way s (x / clusterSize s)) (way-ready g s o _ (reached g s o x l)) e)
+    where
+      go : (w : Way) → Ready g s w (x / clusterSize s) → wayGives w (x % clusterSize s) ≡ Host h → h + (clusterSize s - x % clusterSize s) ≤ length s
+      go (Bad k) r e = absurd (let z : _≡_ {A = ℕ} 0 1 = cc in omega arith)
+      go NoTable r e = absurd (let z : _≡_ {A = ℕ} 0 1 = cc in omega arith)
+      go (Slot a y) r e =
+          let f = facts s (o .accepted) in
+          omega (arith, placed2 s f y (r .good) .inside, host-is (zeroMark y) (eqb (place y) 0) (place y) (x % clusterSize s) h e, mod-lt x (c-pos s f))
+
+  -- a translation that gives a host offset
+  pub host-found : (h : ℕ) → translate s x ≡ Host h → (x < g .size) × (h + (2 ^ g .bits - x % 2 ^ g .bits) ≤ length s)
+  unfolding translate
+  host-found h e = go (leb (diskSize s) x) refl (rw (o .accepted) at e)
+    where
+      go : (b : Bool) → leb (diskSize s) x ≡ b → (if b then Refused 11 else located s x) ≡ Host h → (x < g .size) × (h + (2 ^ g .bits - x % 2 ^ g .bits) ≤ length s)
+      go true t e = absurd (let z : _≡_ {A = ℕ} 0 1 = cc in omega arith)
+      go false t e = let l : x < diskSize s = leb-false _ _ t in (rw (o .is-size) l, host-in h l e)
+
+  pub host-part : (h m : ℕ) → translate s x ≡ Host h → m ≡ min (2 ^ g .bits - x % 2 ^ g .bits) (g .size - x) → part s h m ≡ inPlace s x
+  unfolding inPlace foundPart
+  host-part h m e q = rw (e, q, o .is-cluster, o .is-size)
+
+  -- a part l of the output that gets the bytes from x on
+  module _ (l : List ℕ) (r : x % 2 ^ g .bits + length l ≤ 2 ^ g .bits) where
+    filled : (b : List ℕ) → length b ≡ length l → ((i : ℕ) → i < length l → foundByte s (moved (located s x) i) ≡ getD b i 0) → splice l 0 b ≡ guestBytes s x (length l)
+    unfolding guestBytes
+    filled b n h =
+        let q : x % clusterSize s + length l ≤ clusterSize s = rw (o .is-cluster) at r in
+        splice-whole l b n ∙ rw (← n) (sym (each-list (guestByte s) b x (λ i k. byte-moved s x i (omega arith) ∙ h i (omega arith))))
+
+    pub copied : (h : ℕ) → x < diskSize s → located s x ≡ Host h → splice l 0 (take (length l) (part s h (length l))) ≡ guestBytes s x (length l)
+    unfolding foundByte
+    copied h k e =
+        let m : ℕ = length l in
+        let i : h + m ≤ length s = omega (arith, host-in h k e) in
+        let n : length (part s h m) ≡ m = length-take-le m (drop h s) (simp length-drop (omega arith)) in
+        rw (take-all m (part s h m) (omega arith)) (filled (part s h m) n (λ i k. rw e (sym (getD-take m (drop h s) i 0 k ∙ getD-drop h s i 0))))
+
+    pub cleared : (f : Found) → located s x ≡ f → ((i : ℕ) → foundByte s (moved f i) ≡ 0) → splice l 0 (replicate (length l) 0) ≡ guestBytes s x (length l)
+    cleared f e z =
+        filled (replicate (length l) 0) (length-replicate (length l) 0) (λ i k. rw e (z i ∙ sym (getD-replicate (length l) i 0 0 k)))

@@ -1,0 +1,74 @@
+// From a guest offset to its place in the image, for an image whose header was accepted.
+ghost use mathlib.Core.Path.{_≡_};
+ghost use Prim.Native.Nat.{_+_, _/_, _%_, _<_, _≤_};
+ghost use lib.ListN.{length};
+ghost use Rattle.qcow2_spec.specs.Header.{clusterSize, diskSize, perTable, l1Size};
+ghost use Rattle.qcow2_spec.specs.Guest.{l1Entry, l2Way, way, located, translate};
+ghost use Rattle.qcow2_spec.specs.Opened.{Opened};
+use qcow2_spec::Found;
+use qcow2_spec::Geometry;
+use qcow2_spec::Way;
+
+mod range;
+pub mod reading;
+
+// The L1 entry of a guest cluster.
+fn l1_entry(image: &[u8], g: Geometry, guest: u64) -> u64
+    requires { ⌜ (Opened g (now image)) × (guest / perTable (now image) < l1Size (now image)) ⌝ }
+    ensures { λ r. ⌜ r ≡ l1Entry (now (image .entry)) guest ⌝ }
+{
+    let i = power::quotient(guest, g.bits - 3) as usize;
+    endian::load64(image, g.l1 + 8 * i)
+}
+
+// The way that ends in the L2 table at t, which is handed on as a part of the image.
+fn l2_way(image: &[u8], g: Geometry, t: usize, guest: u64) -> Way
+    requires { ⌜ (Opened g (now image)) × (t + clusterSize (now image) ≤ length (now image)) ⌝ }
+    ensures { λ r. ⌜ r ≡ l2Way (now (image .entry)) t (guest % perTable (now (image .entry))) ⌝ }
+{
+    let n = image.len() as u64;
+    let c = power::power(g.bits) as usize;
+    let i = power::rest(guest, g.bits - 3) as usize;
+    qcow2_entry::way_in(&image[t..t + c], i, t, g.version, n, g.bits)
+}
+
+// The way to a guest cluster.
+pub fn way_to(image: &[u8], g: Geometry, guest: u64) -> Way
+    requires { ⌜ (Opened g (now image)) × (guest / perTable (now image) < l1Size (now image)) ⌝ }
+    ensures { λ r. ⌜ r ≡ way (now (image .entry)) guest ⌝ }
+{
+    let e = l1_entry(image, g, guest);
+    if qcow2_entry::good_l1(e, image.len() as u64, g.bits) {
+        let t = qcow2_entry::place_of(e);
+        if t == 0 {
+            return Way::NoTable;
+        }
+        return l2_way(image, g, t as usize, guest);
+    }
+    Way::Bad(12)
+}
+
+// Where byte x of the disk lies.
+pub fn locate(image: &[u8], g: Geometry, x: u64) -> Found
+    requires { ⌜ (Opened g (now image)) × (x < diskSize (now image)) ⌝ }
+    ensures { λ r. ⌜ r ≡ located (now (image .entry)) x ⌝ }
+{
+    let o = power::rest(x, g.bits);
+    let w = way_to(image, g, power::quotient(x, g.bits));
+    match w {
+        Way::Bad(k) => Found::Refused(k),
+        Way::NoTable => Found::Absent,
+        Way::Slot(_, e) => qcow2_entry::gives(e, o),
+    }
+}
+
+// The translation of guest offset x.
+pub fn translated(image: &[u8], g: Geometry, x: u64) -> Found
+    requires { ⌜ Opened g (now image) ⌝ }
+    ensures { λ r. ⌜ r ≡ translate (now (image .entry)) x ⌝ }
+{
+    if g.size <= x {
+        return Found::Refused(11);
+    }
+    locate(image, g, x)
+}

@@ -1,0 +1,25 @@
+-- The chain of tests is the definition's judgement.
+-- Assumes nothing.
+use Prim.Native.Nat.{ℕ, zero, suc}
+use mathlib.Core.Path.{_≡_, refl}
+use mathlib.Core.Bool.{Bool, true, false}
+use mathlib.Core.List.{List}
+use Rattle.choice.specs.Pick.{if_then_else_, unless}
+use Rattle.qcow2_spec.specs.Header.{headerNumber, tableNumber, judge}
+use Rattle.qcow2_spec.specs.Opened.{opened}
+use Rattle.qcow2_header.specs.Chain.{oddLength, features, from1, from2, from3, from4, from5, from6, from7, from8, from9, from10}
+
+-- a number that comes first, and one that comes last
+before : {A : Type 0} (b : Bool) (k r t : ℕ) (f : ℕ → A) (a : A)
+    → unless (unless (if b then suc k else r) (λ n. n) t) f a ≡ (if b then f (suc k) else unless (unless r (λ n. n) t) f a)
+before true k r t f a = refl
+before false k r t f a = refl
+
+last : {A : Type 0} (b : Bool) (k : ℕ) (f : ℕ → A) (a : A) → unless (if b then 0 else suc k) f a ≡ (if b then a else f (suc k))
+last true k f a = refl
+last false k f a = refl
+
+-- `before` once for each of the numbers 1 to 9, `last` for 10
+pub chain : (s : List ℕ) → opened s ≡ from1 s
+unfolding opened judge headerNumber tableNumber oddLength features from1 from2 from3 from4 from5 from6 from7 from8 from9 from10
+chain s = rw (before, before, before, before, before, before, before, before, before, last)
