@@ -1,3 +1,4 @@
 pub mod Tests
 pub mod Searches
 pub mod Each
+pub mod Runs

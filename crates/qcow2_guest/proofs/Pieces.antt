@@ -29,7 +29,7 @@ use Rattle.qcow2_spec.specs.declared.Way.the-variants.{Bad, NoTable, Slot}
 use Rattle.qcow2_spec.proofs.Found.{the-type}
 use Rattle.qcow2_spec.proofs.Facts.{facts, c-pos}
 use Rattle.qcow2_spec.proofs.Refers.{placed2}
-use Rattle.qcow2_guest.specs.Ready.{Ready}
+use Rattle.qcow2_spec.specs.Ready.{Ready}
 use Rattle.qcow2_guest.proofs.Ready.{reached, way-ready}
 
 -- ---- i bytes on in the same cluster of C bytes

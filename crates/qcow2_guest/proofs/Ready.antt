@@ -1,7 +1,7 @@
 -- The way to a guest cluster lies in the image.
 -- Assumes nothing.
 use Prim.Native.Nat.{ℕ, _+_, _*_, _/_, _%_, _≤_, _<_}
-use native.Mathlib.Nat.{mod-lt}
+use native.Mathlib.Nat.{mod-lt, mul-div-cancel}
 use native.Mathlib.Omega.{arith}
 use mathlib.Core.Path.{_≡_, subst}
 use mathlib.Core.Bool.{true, not}
@@ -18,16 +18,21 @@ use Rattle.qcow2_spec.specs.Opened.{Opened}
 use Rattle.qcow2_spec.specs.declared.Geometry.{Geometry}
 use Rattle.qcow2_spec.specs.declared.Way.{Way}
 use Rattle.qcow2_spec.specs.declared.Way.the-variants.{NoTable, Slot}
-use Rattle.qcow2_spec.proofs.Facts.{facts, e-pos}
+use Rattle.qcow2_spec.proofs.Facts.{facts, c-pos, e-pos}
 use Rattle.qcow2_spec.proofs.Refers.{placed1}
 use Rattle.qcow2_spec.proofs.Ways.{in-l1}
-use Rattle.qcow2_guest.specs.Ready.{Slotted, Ready}
+use Rattle.qcow2_spec.specs.Ready.{Slotted, Ready}
 
 module _ (g : Geometry) (s : List ℕ) (o : Opened g s) where
   -- a byte of the disk has an L1 entry
   pub reached : (x : ℕ) → x < diskSize s → x / clusterSize s / perTable s < l1Size s
   reached x h = in-l1 s (facts s (o .accepted)) x h
 
+  -- and so has a guest cluster that starts on it
+  pub reached-cluster : (guest : ℕ) → guest * clusterSize s < diskSize s → guest / perTable s < l1Size s
+  reached-cluster guest h = rw (mul-div-cancel guest (c-pos s (facts s (o .accepted)))) at (reached (guest * clusterSize s) h)
+
+  -- what is found on the way lies in the image
   pub way-ready : (guest : ℕ) → guest / perTable s < l1Size s → Ready g s (way s guest) guest
   unfolding way l2Way entryWay l1EntryAt
   way-ready guest h =
@@ -47,11 +52,3 @@ module _ (g : Geometry) (s : List ℕ) (o : Opened g s) where
       inside b =
           let f = facts s (o .accepted) in
           omega (arith, placed1 s f (l1Entry s guest) b .inside, o .eight, mod-lt guest (e-pos s f))
-
--- by the way
-module _ (g : Geometry) (s : List ℕ) (w : Way) (guest : ℕ) (r : Ready g s w guest) where
-  pub ready-slot : (a e : ℕ) → w ≡ Slot a e → Slotted g s a e
-  ready-slot a e q = subst (λ (y : Way). Ready g s y guest) q r
-
-  pub ready-none : w ≡ NoTable → l1EntryAt s guest + 8 ≤ length s
-  ready-none q = subst (λ (y : Way). Ready g s y guest) q r

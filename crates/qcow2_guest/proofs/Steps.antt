@@ -27,10 +27,11 @@ module _ (g : Geometry) (s : List ℕ) (o : Opened g s) where
   unfolding l1Entry l1EntryAt
   row-entry guest = rw (o .is-l1, o .is-per)
 
-  -- an entry of the L2 table at t, which is a part of the image
-  pub table-entry : (t i : ℕ) → entryWay (g .version) (2 ^ g .bits) (length s) (t + 8 * i) (be64 (part s t (2 ^ g .bits)) (8 * i)) ≡ l2Way s t i
+  -- entry i of the L2 table at t, which is a part of the image
+  pub table-entry : (t guest i : ℕ) → i ≡ guest % 2 ^ (g .bits - 3)
+      → entryWay (g .version) (2 ^ g .bits) (length s) (t + 8 * i) (be64 (part s t (2 ^ g .bits)) (8 * i)) ≡ l2Way s t (guest % perTable s)
   unfolding l2Way
-  table-entry t i = rw (o .is-version, o .is-cluster)
+  table-entry t guest i e = rw (e, o .is-version, o .is-cluster, o .is-per)
 
   -- the L1 entry e of a guest cluster, whose test gave b
   module _ (guest e : ℕ) (q : e ≡ l1Entry s guest) where

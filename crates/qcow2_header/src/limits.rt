@@ -7,14 +7,17 @@ use qcow2_spec::Geometry;
 
 // Bytes of the shortest and of the longest image.
 pub(crate) const LEAST_LENGTH: usize = 512;
+
 const MOST_LENGTH: u64 = 67108864;
 
 // cluster_bits.
 pub(crate) const LEAST_BITS: u32 = 9;
+
 pub(crate) const MOST_BITS: u32 = 16;
 
 // Bytes of the largest disk, and entries of the longest L1 table.
 const MOST_SIZE: u64 = 1099511627776;
+
 const MOST_L1: usize = 4096;
 
 // Whether the image is no whole number of clusters, or too long.

@@ -40,19 +40,17 @@ fn all_named(table: &[u8], count: usize, n: u64, bits: u32) -> bool
     true
 }
 
-// Whether each of the first entries of a table is 0.
-fn all_zeros(table: &[u8], count: usize) -> bool
-    requires { ⌜ 8 * count ≤ length (now table) ⌝ }
-    ensures { λ r. ⌜ r ≡ all (λ e. eqb e 0) (entries count (now (table .entry))) ⌝ }
+// Whether every byte of a part is 0. The loop has one way out, so that it compiles to loads of 16 bytes.
+fn all_zeros(part: &[u8]) -> bool
+    ensures { λ r. ⌜ r ≡ all (λ b. eqb b 0) (now (part .entry)) ⌝ }
 {
-    let mut i = 0;
-    while i < count {
-        if endian::load64(table, 8 * i) != 0 {
-            return false;
-        }
-        i += 1;
+    let mut seen: u8 = 0;
+    let mut k = 0;
+    while k < part.len() {
+        seen |= part[k];
+        k += 1;
     }
-    true
+    seen == 0
 }
 
 // Whether the first entries of a table name blocks, and the later ones are 0.
@@ -62,7 +60,8 @@ pub(crate) fn good(table: &[u8], count: usize, blocks: usize, n: u64, bits: u32)
 {
     if all_named(table, blocks, n, bits) {
         let at = 8 * blocks;
-        return all_zeros(&table[at..], count - blocks);
+        let end = 8 * count;
+        return all_zeros(&table[at..end]);
     }
     false
 }

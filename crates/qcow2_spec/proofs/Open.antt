@@ -72,18 +72,18 @@ module _ (s : List ℕ) (e : judge s ≡ 0) where
       }
 
 -- what an answer of the header's judgement says
-pub refused-is : (s : List ℕ) (k : ℕ) → opened s ≡ Refused k → judge s ≡ k
+pub refused-is : (s : List ℕ) (k : ℕ) → opened s ≡ Refused k → (judge s ≡ k) × (k ≡ 0 → ⊥)
 unfolding opened
-refused-is s k h = go (judge s) h
+refused-is s k h = go (judge s) refl h
   where
-    go : (j : ℕ) → unless j Refused (Accepted (geometry s)) ≡ Refused k → j ≡ k
-    go zero h = absurd (let z : _≡_ {A = ℕ} 0 1 = cc in omega arith)
-    go (suc j) h = cc
+    go : (j : ℕ) → judge s ≡ j → unless j Refused (Accepted (geometry s)) ≡ Refused k → (judge s ≡ k) × (k ≡ 0 → ⊥)
+    go zero e h = absurd (let z : _≡_ {A = ℕ} 0 1 = cc in omega arith)
+    go (suc j) e h = let q : suc j ≡ k = cc in (e ∙ q, λ z. omega arith)
 
-pub accepted-is : (s : List ℕ) (g : Geometry) → opened s ≡ Accepted g → (judge s ≡ 0) × Opened g s
+pub accepted-is : (s : List ℕ) (g : Geometry) → opened s ≡ Accepted g → Opened g s
 unfolding opened
 accepted-is s g h = go (judge s) refl h
   where
-    go : (j : ℕ) → judge s ≡ j → unless j Refused (Accepted (geometry s)) ≡ Accepted g → (judge s ≡ 0) × Opened g s
+    go : (j : ℕ) → judge s ≡ j → unless j Refused (Accepted (geometry s)) ≡ Accepted g → Opened g s
     go (suc j) e h = absurd (let z : _≡_ {A = ℕ} 0 1 = cc in omega arith)
-    go zero e h = let q : geometry s ≡ g = cc in (e, rw q at (geometry-opened s e))
+    go zero e h = let q : geometry s ≡ g = cc in rw q at (geometry-opened s e)

@@ -8,3 +8,4 @@ pub mod Check
 pub mod Disk
 pub mod Series
 pub mod Opened
+pub mod Ready

@@ -15,7 +15,7 @@ returns c =
     let k = r .before .before .power .result in
     let d : a .t + k - a .t ≡ k = omega arith in
     let p : a .t + k - a .t ≡ 2 ^ a .g .bits = d ∙ r .before .before .power .ensures .0 in
-    rw p at (c .way-in .ensures) ∙ rw (r .rest .ensures .0, b .pre .0 .is-per) (table-entry (a .g) (now (a .image)) (b .pre .0) (a .t) _)
+    rw p at (c .way-in .ensures) ∙ table-entry (a .g) (now (a .image)) (b .pre .0) (a .t) (a .guest) _ (r .rest .ensures .0)
 
 pub l2-way-spec : {M : Type 1} → statement M
 l2-way-spec = tie.close (tie.spec (search needs) (search needs) (search needs) (search needs) (search needs) (search needs) (search needs) (search needs) returns)

@@ -1,7 +1,7 @@
 use borrow.Author.Needs.{needs}
 use native.Mathlib.Omega.{arith}
 use native.Mathlib.Nat.{mul-le-mul}
-use Prim.Native.Nat.{_*_, _/_, _^_, _≤_}
+use Prim.Native.Nat.{_/_, _^_, _≤_}
 use mathlib.Core.Path.{ap}
 use lib.ListN.{length-drop}
 use Rattle.endian.proofs.Entries.{part-rest}

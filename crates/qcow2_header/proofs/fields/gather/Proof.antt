@@ -1,9 +1,6 @@
 use borrow.Author.Needs.{needs}
-use Prim.Native.Nat.{_<_, _≤_}
 use native.Mathlib.Omega.{arith}
-use mathlib.Core.Path.{refl, _≡_}
 use denote.Ref.{now}
-use Rattle.endian.specs.Big.{be32}
 use Rattle.qcow2_spec.specs.Header.{version, clusters, clusterSize, diskSize, l1Size, l1At, tableAt, tableClusters, blocks, perBlock}
 use Rattle.qcow2_spec.specs.Opened.{geometry}
 use Rattle.qcow2_header.proofs.fields.gather.Statement.{statement}

@@ -1,5 +1,4 @@
 use borrow.Author.Needs.{needs}
-use mathlib.Core.Path.{_∙_}
 use Prim.Native.Nat.{_≤_}
 use Rattle.qcow2_header.proofs.Laws.{half}
 use Rattle.qcow2_header.proofs.limits.block_count.Statement.{statement}

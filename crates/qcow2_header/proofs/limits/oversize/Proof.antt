@@ -3,6 +3,7 @@ use borrow.Author.Tests.{lt-ltb, le-ltb}
 use native.Mathlib.Omega.{arith}
 use native.Mathlib.Nat.{mul-le-mul}
 use Prim.Native.Nat.{_/_, _≤_}
+use Rattle.qcow2_spec.specs.Header.{mostL1}
 use Rattle.qcow2_header.specs.Chain.{oversize}
 use Rattle.qcow2_header.proofs.limits.oversize.Statement.{statement}
 use Rattle.qcow2_header.proofs.limits.oversize.Tie as tie
@@ -13,7 +14,7 @@ returns c = rw (lt-ltb _ _ (c .if1 .taken))
 
 returns-2 : tie.Need-returns-2
 unfolding oversize
-returns-2 c = rw (le-ltb _ _ (c .before .before .if1 .left), lt-ltb _ _ (c .if2 .taken))
+returns-2 c = rw (le-ltb _ _ (c .before .before .if1 .left), lt-ltb mostL1 _ (c .if2 .taken))
 
 mul-result : tie.Need-mul-result
 mul-result c =

@@ -1,12 +1,12 @@
 use borrow.Author.Needs.{needs}
 use native.Mathlib.Omega.{arith}
 use Prim.Native.Nat.{ℕ, _-_, _*_, _^_, _≤_}
-use mathlib.Core.Path.{_≡_, sym, ap, _∙_}
+use mathlib.Core.Path.{_≡_, sym, _∙_}
 use mathlib.Core.Bool.{Bool, true, false}
 use denote.Ref.{now}
 use lib.ListN.{drop}
 use Rattle.choice.specs.Pick.{all}
-use Rattle.endian.specs.Big.{be64, entries}
+use Rattle.endian.specs.Big.{entries}
 use Rattle.endian.proofs.Entries.{entries-whole}
 use Rattle.qcow2_spec.specs.Header.{goodBlock}
 use Rattle.qcow2_header.proofs.Laws.{all-next, all-stop, all-done}

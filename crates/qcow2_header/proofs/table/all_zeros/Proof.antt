@@ -1,60 +1,34 @@
 use borrow.Author.Needs.{needs}
-use borrow.Author.Tests.{eq-eqb, ne-eqb}
 use native.Mathlib.Omega.{arith}
-use Prim.Native.Nat.{ℕ, _-_, _*_, _≤_}
-use mathlib.Core.Path.{_≡_}
-use mathlib.Core.Bool.{Bool}
+use Prim.Native.Nat.{_-_, _≤_}
+use mathlib.Core.Path.{_≡_, refl}
+use mathlib.Core.Bool.{_&&_}
 use denote.Ref.{now}
-use lib.Dec.{eqb}
-use lib.ListN.{drop}
+use lib.ListN.{length, drop}
 use Rattle.choice.specs.Pick.{all}
-use Rattle.endian.specs.Big.{be64, entries}
-use Rattle.endian.proofs.Entries.{entries-whole}
-use Rattle.qcow2_header.proofs.Laws.{all-next, all-stop, all-done}
+use Rattle.qcow2_header.proofs.Zeros.{isZero, zeros-next, zeros-done}
 use Rattle.qcow2_header.proofs.table.all_zeros.Statement.{statement}
 use Rattle.qcow2_header.proofs.table.all_zeros.Tie as tie
 
-abbrev isZero : ℕ → Bool
-isZero e = eqb e 0
-
 abbrev Inv-loop : tie.InvT-loop
-Inv-loop table count i₀ i = (i ≤ count) × (all isZero (entries (count - i) (drop (8 * i) table)) ≡ all isZero (entries count table))
+Inv-loop part seen₀ k₀ seen k = (k ≤ length part) × ((isZero seen && all isZero (drop k part)) ≡ all isZero part)
 
 abbrev μ-loop : tie.MeasureT-loop
-μ-loop table count i₀ i = count - i
+μ-loop part seen₀ k₀ seen k = length part - k
 
 loop-holds : tie.Need-loop-holds Inv-loop μ-loop
-loop-holds c = (search needs, rw entries-whole)
-
-returns : tie.Need-returns Inv-loop μ-loop
-returns c =
-    let l = c .before .before .before .loop in
-    let a = c .before .before .before .before .before .args in
-    all-stop isZero (a .count) (l .i) (now (a .table)) (l .inv .1) (omega arith) (ne-eqb (be64 (now (a .table)) (8 * l .i)) 0 (λ e. omega arith))
+loop-holds c = (search needs, refl)
 
 loop-again : tie.Need-loop-again Inv-loop μ-loop
 loop-again c =
-    let l = c .before .before .before .loop in
-    let a = c .before .before .before .before .before .args in
-    (search needs, all-next isZero (a .count) (l .i) (now (a .table)) (l .inv .1) (omega arith) (eq-eqb (be64 (now (a .table)) (8 * l .i)) 0 (omega arith)))
+    let l = c .before .before .loop in
+    (search needs, zeros-next (now (c .before .before .before .args .part)) (l .k) (l .seen) (omega arith) (l .inv .1))
 
-returns-2 : tie.Need-returns-2 Inv-loop μ-loop
-returns-2 c =
+returns : tie.Need-returns Inv-loop μ-loop
+returns c =
     let l = c .before .loop in
-    let a = c .before .before .before .args in
-    all-done isZero (a .count) (l .i) (now (a .table)) (l .inv .1) (omega arith)
+    zeros-done (now (c .before .before .args .part)) (l .k) (l .seen) (omega arith) (l .inv .1)
 
 pub all-zeros-spec : {M : Type 1} → statement M
 all-zeros-spec =
-    tie.close
-    (tie.spec
-    Inv-loop
-    μ-loop
-    loop-holds
-    (search needs)
-    (search needs)
-    returns
-    (search needs)
-    (search needs)
-    loop-again
-    returns-2)
+    tie.close (tie.spec Inv-loop μ-loop loop-holds (search needs) (search needs) (search needs) loop-again returns)

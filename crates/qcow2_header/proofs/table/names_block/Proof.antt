@@ -1,7 +1,7 @@
 use borrow.Author.Needs.{needs}
 use borrow.Author.Tests.{eq-eqb, ne-eqb, le-leb, lt-leb, ltb-true, ltb-false}
 use native.Mathlib.Omega.{arith}
-use Prim.Native.Nat.{_+_, _%_, _^_, _≤_, _<_}
+use Prim.Native.Nat.{_+_, _%_, _^_}
 use mathlib.Core.Path.{_≡_, sym, _∙_}
 use mathlib.Core.Bool.{true, false, and-false}
 use lib.Dec.{ltb, eqb}

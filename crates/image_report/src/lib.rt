@@ -1,0 +1,122 @@
+// What the small program writes of an image. Paper 01, "The bench image".
+ghost use Rattle.qcow2_spec.specs.Opened.{Opened};
+use qcow2_spec::Geometry;
+use qcow2_spec::Judged;
+use qcow2_spec::Verdict;
+
+// A field: a tab and a number.
+fn field(fd: i32, n: u64) {
+    io::write_all(fd, b"\t");
+    io::number::print_decimal(fd, n);
+}
+
+fn refused(fd: i32, k: u8) {
+    io::write_all(fd, b"refused");
+    field(fd, k as u64);
+    io::write_all(fd, b"\n");
+}
+
+// Version, cluster size, clusters, disk size and L1 entries.
+fn image_line(fd: i32, g: Geometry)
+    requires { ⌜ g .bits ≤ 16 ⌝ }
+{
+    io::write_all(fd, b"image");
+    field(fd, g.version as u64);
+    field(fd, power::power(g.bits));
+    field(fd, g.clusters as u64);
+    field(fd, g.size);
+    field(fd, g.rows as u64);
+    io::write_all(fd, b"\n");
+}
+
+// The leaked clusters: none where the image is sound, and no number where it is damaged.
+fn leaked(fd: i32, v: Verdict) {
+    match v {
+        Verdict::Sound => field(fd, 0),
+        Verdict::Leaks(n) => field(fd, n as u64),
+        Verdict::BadL1(_) => no_field(fd),
+        Verdict::BadL2(_, _) => no_field(fd),
+        Verdict::Shared(_) => no_field(fd),
+        Verdict::Short(_) => no_field(fd),
+        Verdict::Refused(_) => no_field(fd),
+    }
+}
+
+fn no_field(fd: i32) {
+    io::write_all(fd, b"\t-");
+}
+
+// Counts that are not 0, counts that are 0, and leaked clusters.
+fn clusters_line(fd: i32, used: usize, free: usize, v: Verdict) {
+    io::write_all(fd, b"clusters");
+    field(fd, used as u64);
+    field(fd, free as u64);
+    leaked(fd, v);
+    io::write_all(fd, b"\n");
+}
+
+// A damaged image, with what is named.
+fn entry_words(fd: i32, i: usize) {
+    io::write_all(fd, b"\tdamaged\tentry");
+    field(fd, i as u64);
+}
+
+fn verdict_words(fd: i32, v: Verdict) {
+    match v {
+        Verdict::Sound => {
+            io::write_all(fd, b"\tsound");
+        }
+        Verdict::Leaks(n) => {
+            io::write_all(fd, b"\tleaks");
+            field(fd, n as u64);
+        }
+        Verdict::BadL1(i) => {
+            entry_words(fd, i);
+            no_field(fd);
+        }
+        Verdict::BadL2(i, j) => {
+            entry_words(fd, i);
+            field(fd, j as u64);
+        }
+        Verdict::Shared(k) => {
+            io::write_all(fd, b"\tdamaged\tshared");
+            field(fd, k as u64);
+        }
+        Verdict::Short(k) => {
+            io::write_all(fd, b"\tdamaged\tshort");
+            field(fd, k as u64);
+        }
+        Verdict::Refused(k) => field(fd, k as u64),
+    }
+}
+
+fn verdict_line(fd: i32, v: Verdict) {
+    io::write_all(fd, b"verdict");
+    verdict_words(fd, v);
+    io::write_all(fd, b"\n");
+}
+
+// The three lines of an accepted image.
+fn accepted(fd: i32, image: &[u8], g: Geometry, v: Verdict)
+    requires { ⌜ Opened g (now image) ⌝ }
+{
+    let free = qcow2_check::free_clusters(image, g);
+    image_line(fd, g);
+    clusters_line(fd, g.clusters - free, free, v);
+    verdict_line(fd, v);
+}
+
+// Writes what is to be said of an image. The scratch has a byte for each cluster of it.
+pub fn report(fd: i32, image: &[u8], scratch: &mut [u8]) {
+    let v = qcow2::check(image, scratch);
+    let j = qcow2_header::judge(image);
+    match j {
+        Judged::Refused(k) => refused(fd, k),
+        Judged::Accepted(g) => accepted(fd, image, g, v),
+    }
+}
+
+// Writes that the input is too long.
+pub fn report_long(fd: i32) {
+    io::write_all(fd, b"refused\tlong\n");
+}

@@ -1,0 +1,32 @@
+use mathlib.Core.Path.{_≡_, sym}
+use lib.ListN.{length}
+use denote.Ref.{now}
+use borrow.Author.Needs.{needs}
+use Rattle.qcow2_spec.specs.declared.Judged.the-variants.{Refused, Accepted}
+use Rattle.qcow2_spec.specs.Opened.{opened}
+use Rattle.qcow2_spec.proofs.Open.{accepted-is}
+use Rattle.qcow2.proofs.Refusals.{check-refused, scratch-refused}
+use Rattle.qcow2.proofs.check.Statement.{statement}
+use Rattle.qcow2.proofs.check.Tie as tie
+
+check-requires : tie.Need-check-requires
+check-requires c κs =
+    let s = now (c .before .before .before .before .before .before .before .args .image) in
+    let g = c .before .before .j2 .given .0 .0 in
+    let e : opened s ≡ Accepted g = cc in
+    accepted-is s g e
+
+returns : tie.Need-returns
+returns c =
+    let a = c .before .before .before .before .before .before .args in
+    let s = now (a .image) in
+    let t = now (a .scratch) in
+    let k = c .before .j .given .0 .0 in
+    let e : opened s ≡ Refused k = cc in
+    (sym (check-refused s k e (length t)), sym (scratch-refused s k e t))
+
+returns-2 : tie.Need-returns-2
+returns-2 c = c .before .before .check .ensures
+
+pub check-spec : {M : Type 1} → statement M
+check-spec = tie.close (tie.spec (search needs) (search needs) (search needs) check-requires returns (search needs) returns-2)

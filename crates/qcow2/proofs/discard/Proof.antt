@@ -1,0 +1,30 @@
+use mathlib.Core.Path.{_≡_}
+use denote.Ref.{now}
+use borrow.Author.Needs.{needs}
+use Rattle.qcow2_spec.specs.declared.Judged.the-variants.{Refused, Accepted}
+use Rattle.qcow2_spec.specs.Opened.{opened}
+use Rattle.qcow2_spec.proofs.Open.{accepted-is}
+use Rattle.qcow2.proofs.Refusals.{discard-refused}
+use Rattle.qcow2.proofs.discard.Statement.{statement}
+use Rattle.qcow2.proofs.discard.Tie as tie
+
+discard-requires : tie.Need-discard-requires
+discard-requires c κs =
+    let s = now (c .before .before .before .before .before .before .before .args .image) in
+    let g = c .before .before .j2 .given .0 .0 in
+    let e : opened s ≡ Accepted g = cc in
+    accepted-is s g e
+
+returns : tie.Need-returns
+returns c =
+    let a = c .before .before .before .before .before .before .args in
+    let s = now (a .image) in
+    let k = c .before .j .given .0 .0 in
+    let e : opened s ≡ Refused k = cc in
+    discard-refused s k e (a .guest) (a .allowance)
+
+returns-2 : tie.Need-returns-2
+returns-2 c = c .before .before .discard .ensures
+
+pub discard-spec : {M : Type 1} → statement M
+discard-spec = tie.close (tie.spec (search needs) (search needs) (search needs) discard-requires (search needs) returns (search needs) returns-2)

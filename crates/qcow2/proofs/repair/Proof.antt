@@ -1,0 +1,31 @@
+use mathlib.Core.Path.{_≡_, sym}
+use lib.ListN.{length}
+use denote.Ref.{now}
+use borrow.Author.Needs.{needs}
+use Rattle.qcow2_spec.specs.declared.Judged.the-variants.{Refused, Accepted}
+use Rattle.qcow2_spec.specs.Opened.{opened}
+use Rattle.qcow2_spec.proofs.Open.{accepted-is}
+use Rattle.qcow2.proofs.Refusals.{repair-refused, scratch-refused}
+use Rattle.qcow2.proofs.repair.Statement.{statement}
+use Rattle.qcow2.proofs.repair.Tie as tie
+
+repair-requires : tie.Need-repair-requires
+repair-requires c κs =
+    let s = now (c .before .before .before .before .before .before .before .before .before .args .image) in
+    let g = c .before .before .before .j2 .given .0 .0 in
+    let e : opened s ≡ Accepted g = cc in
+    accepted-is s g e
+
+returns : tie.Need-returns
+returns c =
+    let a = c .before .before .before .before .before .before .before .args in
+    let s = now (a .image) in
+    let k = c .before .j .given .0 .0 in
+    let e : opened s ≡ Refused k = cc in
+    (repair-refused s k e (length (now (a .scratch))) (a .allowance), sym (scratch-refused s k e (now (a .scratch))))
+
+returns-2 : tie.Need-returns-2
+returns-2 c = c .before .before .before .before .repair .ensures
+
+pub repair-spec : {M : Type 1} → statement M
+repair-spec = tie.close (tie.spec (search needs) (search needs) (search needs) repair-requires (search needs) returns (search needs) (search needs) returns-2)

@@ -1,0 +1,94 @@
+// The calls on a qcow2 image: read, write, discard, check and repair over lent bytes. Each judges the header afresh, takes any
+// bytes and any numbers, and asks nothing of its caller. What an answer means is in qcow2_spec/specs/.
+ghost use mathlib.Core.Path.{_≡_};
+ghost use lib.ListN.{length};
+ghost use Rattle.units.specs.Plan.{Done};
+ghost use Rattle.qcow2_spec.specs.Guest.{translate as translation, readNumber, readInto, inPlace};
+ghost use Rattle.qcow2_spec.specs.Store.{writePlan, discardPlan};
+ghost use Rattle.qcow2_spec.specs.References.{scratchLeft};
+ghost use Rattle.qcow2_spec.specs.Check.{check as checked, repairPlan};
+use qcow2_spec::Found;
+use qcow2_spec::Judged;
+use qcow2_spec::Verdict;
+use units::Outcome;
+
+mod opened;
+
+// Where guest offset x lies: a host offset, zeros, not allocated, or a number from 1 to 13.
+pub fn translate(image: &[u8], x: u64) -> Found
+    ensures { λ r. ⌜ r ≡ translation (now (image .entry)) x ⌝ }
+{
+    let j = qcow2_header::judge(image);
+    match j {
+        Judged::Refused(k) => Found::Refused(k),
+        Judged::Accepted(g) => qcow2_guest::translated(image, g, x),
+    }
+}
+
+// Fills out with the guest bytes from x on and answers 0, or answers a number from 1 to 13 and leaves it alone.
+pub fn read(image: &[u8], x: u64, out: &mut [u8]) -> u8
+    ensures { λ r. ⌜ (r ≡ readNumber (now (image .entry)) x (length (now (out .entry)))) × (now (out .exit) ≡ readInto (now (image .entry)) x (now (out .entry))) ⌝ }
+{
+    let j = qcow2_header::judge(image);
+    match j {
+        Judged::Refused(k) => k,
+        Judged::Accepted(g) => qcow2_guest::reading::read_into(image, g, x, out),
+    }
+}
+
+// The guest bytes themselves as a part of the image, from x to the end of its cluster or of the disk; empty where translation
+// gives no host offset.
+pub fn lookup<'a>(image: &'a [u8], x: u64) -> &'a [u8]
+    ensures { λ r. ⌜ now r ≡ inPlace (now (image .entry)) x ⌝ }
+{
+    let j = qcow2_header::judge(image);
+    match j {
+        Judged::Refused(_) => &image[..0],
+        Judged::Accepted(g) => qcow2_guest::reading::part_in(image, g, x),
+    }
+}
+
+// Writes src at guest offset x, as far as the allowance of units goes: finished, stopped, or a number from 1 to 14.
+pub fn write(image: &mut [u8], x: u64, src: &[u8], allowance: usize) -> Outcome
+    ensures { λ r. ⌜ Done (writePlan (now (image .entry)) x (now (src .entry))) allowance (now (image .entry)) r (now (image .exit)) ⌝ }
+{
+    let j = qcow2_header::judge(image);
+    match j {
+        Judged::Refused(k) => Outcome::Refused(k),
+        Judged::Accepted(g) => opened::write(image, g, x, src, allowance),
+    }
+}
+
+// Discards a guest cluster, as far as the allowance goes: finished, stopped, or a number from 1 to 13 or 16.
+pub fn discard(image: &mut [u8], guest: u64, allowance: usize) -> Outcome
+    ensures { λ r. ⌜ Done (discardPlan (now (image .entry)) guest) allowance (now (image .entry)) r (now (image .exit)) ⌝ }
+{
+    let j = qcow2_header::judge(image);
+    match j {
+        Judged::Refused(k) => Outcome::Refused(k),
+        Judged::Accepted(g) => opened::discard(image, g, guest, allowance),
+    }
+}
+
+// Says sound, leaking or damaged, or a number from 1 to 10 or 15. The scratch's first bytes end as the references.
+pub fn check(image: &[u8], scratch: &mut [u8]) -> Verdict
+    ensures { λ r. ⌜ (r ≡ checked (now (image .entry)) (length (now (scratch .entry)))) × (now (scratch .exit) ≡ scratchLeft (now (image .entry)) (now (scratch .entry))) ⌝ }
+{
+    let j = qcow2_header::judge(image);
+    match j {
+        Judged::Refused(k) => Verdict::Refused(k),
+        Judged::Accepted(g) => opened::check(image, scratch, g),
+    }
+}
+
+// Sets each count that differs from the references to them, as far as the allowance goes: finished, stopped, or a number from
+// 1 to 10, 15 or 17. The scratch ends as a check leaves it, whatever the allowance.
+pub fn repair(image: &mut [u8], scratch: &mut [u8], allowance: usize) -> Outcome
+    ensures { λ r. ⌜ Done (repairPlan (now (image .entry)) (length (now (scratch .entry)))) allowance (now (image .entry)) r (now (image .exit)) × (now (scratch .exit) ≡ scratchLeft (now (image .entry)) (now (scratch .entry))) ⌝ }
+{
+    let j = qcow2_header::judge(image);
+    match j {
+        Judged::Refused(k) => Outcome::Refused(k),
+        Judged::Accepted(g) => opened::repair(image, scratch, g, allowance),
+    }
+}

@@ -1,0 +1,64 @@
+-- In an image whose verdict is leaks, no cluster has two references. Assumes nothing.
+use Prim.Native.Nat.{ℕ, suc, _≤_, _<_}
+use native.Mathlib.Omega.{arith}
+use mathlib.Core.Path.{_≡_, refl}
+use mathlib.Core.Bool.{Bool, true, false, not}
+use mathlib.Core.List.{List, [], _∷_}
+use lib.Dec.{eqb, ltb}
+use lib.ListN.{length, getD}
+use borrow.Author.Tests.{ltb-false}
+use Rattle.choice.specs.Pick.{if_then_else_, first}
+use Rattle.choice.proofs.Runs.{none-found}
+use Rattle.tally.specs.Tally.{occurrences, twice}
+use Rattle.qcow2_spec.specs.Header.{version, clusterSize, clusters}
+use Rattle.qcow2_spec.specs.Entries.{place, goodL1, goodL2}
+use Rattle.qcow2_spec.specs.References.{references, figuresOf, l1Entries, l2Entries}
+use Rattle.qcow2_spec.specs.Check.{l2Verdict, entryVerdict, l1Verdict, countsVerdict, verdict}
+use Rattle.qcow2_spec.specs.declared.Verdict.{Verdict}
+use Rattle.qcow2_spec.specs.declared.Verdict.the-variants.{Leaks, BadL1, BadL2, Shared}
+use Rattle.qcow2_spec.proofs.Verdicts.{figure-is}
+
+module _ (m : ℕ) where
+  -- a test that was passed
+  past : (b : Bool) (w v : Verdict) → (w ≡ Leaks m → ⊥) → (if b then w else v) ≡ Leaks m → (b ≡ false) × (v ≡ Leaks m)
+  past true w v n h = absurd (n h)
+  past false w v n h = (refl, h)
+
+  passed : (b : Bool) (w v : Verdict) → (w ≡ Leaks m → ⊥) → (if b then v else w) ≡ Leaks m → v ≡ Leaks m
+  passed true w v n h = h
+  passed false w v n h = absurd (n h)
+
+  l2-next : (good : ℕ → Bool) (i j : ℕ) (es : List ℕ) (next : Verdict) → l2Verdict good i j es next ≡ Leaks m → next ≡ Leaks m
+  unfolding l2Verdict
+  l2-next good i j [] next h = h
+  l2-next good i j (e ∷ es) next h =
+      l2-next good i (suc j) es next (passed (good e) (BadL2 i j) (l2Verdict good i (suc j) es next) (λ q. let z : _≡_ {A = ℕ} 0 1 = cc in omega arith) h)
+
+  module _ (s : List ℕ) where
+    entry-next : (i e : ℕ) (next : Verdict) → entryVerdict s i e next ≡ Leaks m → next ≡ Leaks m
+    unfolding entryVerdict
+    entry-next i e next h =
+        go (eqb (place e) 0) (past (not (goodL1 (clusterSize s) (length s) e)) (BadL1 i) (if eqb (place e) 0 then next else below) (λ q. let z : _≡_ {A = ℕ} 0 1 = cc in omega arith) h .1)
+      where
+        below : Verdict
+        below = l2Verdict (goodL2 (version s) (clusterSize s) (length s)) i 0 (l2Entries s (place e)) next
+
+        go : (b : Bool) → (if b then next else below) ≡ Leaks m → next ≡ Leaks m
+        go true q = q
+        go false q = l2-next (goodL2 (version s) (clusterSize s) (length s)) i 0 (l2Entries s (place e)) next q
+
+    l1-next : (i : ℕ) (es : List ℕ) (next : Verdict) → l1Verdict s i es next ≡ Leaks m → next ≡ Leaks m
+    unfolding l1Verdict
+    l1-next i [] next h = h
+    l1-next i (e ∷ es) next h = l1-next (suc i) es next (entry-next i e (l1Verdict s (suc i) es next) h)
+
+    pub alone : verdict s ≡ Leaks m → (k : ℕ) → k < clusters s → occurrences k (references s) ≤ 1
+    unfolding verdict countsVerdict twice
+    alone h k l =
+        let fs : List ℕ = figuresOf s in
+        let N = clusters s in
+        let shared = first (twice fs) 0 N in
+        let c = l1-next 0 (l1Entries s) (countsVerdict s fs) h in
+        let t = past (ltb shared N) (Shared shared) _ (λ q. let z : _≡_ {A = ℕ} 0 1 = cc in omega arith) c in
+        let f : getD fs k 0 ≤ 1 = ltb-false 1 (getD fs k 0) (none-found (twice fs) 0 N k (omega (arith, ltb-false shared N (t .0))) (omega arith) (omega arith)) in
+        omega (arith, figure-is s k l)

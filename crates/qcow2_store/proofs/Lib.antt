@@ -1,0 +1,11 @@
+pub mod Sizes
+pub mod Counts
+pub mod Slots
+pub mod Discards
+pub mod Writes
+pub mod Links
+pub mod Fixes
+pub mod Midway
+pub mod Alone
+pub mod Apart
+pub mod Repairs

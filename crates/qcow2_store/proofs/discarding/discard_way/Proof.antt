@@ -1,0 +1,44 @@
+use borrow.Author.Needs.{needs}
+use denote.Ref.{now}
+use Rattle.qcow2_store.proofs.Slots.{ready-slot}
+use Rattle.qcow2_store.proofs.Discards.{discard-bad, discard-none, discard-there}
+use Rattle.qcow2_store.proofs.discarding.discard_way.Statement.{statement}
+use Rattle.qcow2_store.proofs.discarding.discard_way.Tie as tie
+
+discard-slot-requires : tie.Need-discard-slot-requires
+discard-slot-requires c κs =
+    let s = c .before .before .before .before .before in
+    let a = s .args in
+    let p = c .before .before .way2 .given in
+    ready-slot (a .g) (now (a .image)) (a .way) (a .guest) (s .pre .1) (p .0 .0) (p .0 .1 .0) (p .1)
+
+returns : tie.Need-returns
+returns c =
+    let a = c .before .before .before .before .args in
+    let p = c .before .way .given in
+    discard-bad (now (a .image)) (a .way) (a .allowance) (p .0 .0) (p .1)
+
+returns-2 : tie.Need-returns-2
+returns-2 c =
+    let a = c .before .before .before .before .args in
+    discard-none (now (a .image)) (a .way) (a .allowance) _ (c .before .enum-told .given .1) (c .end-of .ensures)
+
+returns-3 : tie.Need-returns-3
+returns-3 c =
+    let a = c .before .before .before .before .before .before .before .before .args in
+    let p = c .before .before .before .before .before .way2 .given in
+    discard-there (now (a .image)) (a .way) (a .allowance) _ _ (p .0 .0) (p .0 .1 .0) (p .1) (c .before .before .discard-slot .ensures)
+
+pub discard-way-spec : {M : Type 1} → statement M
+discard-way-spec =
+    tie.close
+    (tie.spec
+    (search needs)
+    (search needs)
+    (search needs)
+    (search needs)
+    discard-slot-requires
+    returns
+    returns-2
+    (search needs)
+    returns-3)

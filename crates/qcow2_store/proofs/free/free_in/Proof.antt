@@ -1,0 +1,45 @@
+use borrow.Author.Needs.{needs}
+use native.Mathlib.Omega.{arith}
+use Prim.Native.Nat.{_+_, _-_, _^_}
+use mathlib.Core.Path.{_≡_, _∙_}
+use denote.Ref.{now}
+use Rattle.choice.specs.Pick.{first}
+use Rattle.choice.proofs.Runs.{first-low, first-high}
+use Rattle.qcow2_spec.specs.Header.{blockAt}
+use Rattle.qcow2_store.specs.Blocks.{zeroIn}
+use Rattle.qcow2_store.proofs.Sizes.{named, block-is}
+use Rattle.qcow2_store.proofs.Counts.{part-zero}
+use Rattle.qcow2_store.proofs.free.free_in.Statement.{statement}
+use Rattle.qcow2_store.proofs.free.free_in.Tie as tie
+
+block-at-requires : tie.Need-block-at-requires
+block-at-requires c κs =
+    let s = c .before in
+    named (s .args .g) (now (s .args .image)) (s .pre .0) (s .args .b) (s .pre .1 .0)
+
+returns : tie.Need-returns
+returns c =
+    let s = c .before .before .before .before .before in
+    let a = s .args in
+    let l = now (a .image) in
+    let p = c .before .before .before .block-at in
+    let q = c .before .before .bytes-of .result in
+    let d : p .result + q - p .result ≡ 2 ^ a .g .bits = omega arith in
+    let n : a .j + (a .end - a .j) ≡ a .end = omega arith in
+    let b : p .result ≡ blockAt l (a .b) = p .ensures .0 ∙ block-is (a .g) l (s .pre .0) (a .b) in
+    let e : c .lowest-free .result ≡ first (zeroIn l (a .b)) (a .j) (a .end - a .j) =
+    rw (d, b) at (c .lowest-free .ensures) ∙ part-zero l (a .b) (2 ^ a .g .bits) (a .j) (a .end - a .j) (omega arith) in
+    (e, (omega (arith, first-low (zeroIn l (a .b)) (a .j) (a .end - a .j)), omega (arith, first-high (zeroIn l (a .b)) (a .j) (a .end - a .j))))
+
+pub free-in-spec : {M : Type 1} → statement M
+free-in-spec =
+    tie.close
+    (tie.spec
+    block-at-requires
+    (search needs)
+    (search needs)
+    (search needs)
+    (search needs)
+    (search needs)
+    (search needs)
+    returns)

@@ -1,0 +1,34 @@
+-- Refcount blocks: how one is found, and the counts in it.
+-- Assumes nothing.
+use Prim.Native.Nat.{ℕ, _+_, _-_, _*_, _/_, _%_, _^_, _≤_}
+use mathlib.Core.Bool.{Bool}
+use mathlib.Core.List.{List}
+use lib.Dec.{eqb}
+use lib.ListN.{length}
+use Rattle.endian.specs.Big.{be16, be64}
+use Rattle.qcow2_spec.specs.Header.{blockAt}
+use Rattle.qcow2_spec.specs.declared.Geometry.{Geometry}
+
+-- the refcount table of s names block b, which lies in the image
+pub record Named (g : Geometry) (s : List ℕ) (b : ℕ) : Type 0 where
+  pub entered : g .table + 8 * b + 8 ≤ length s
+  pub short : length s ≤ 67108864
+  pub inside : be64 s (g .table + 8 * b) + 2 ^ g .bits ≤ length s
+
+-- the place of cluster k's count, by the refcount table of s
+abbrev pub placeOf : Geometry → List ℕ → ℕ → ℕ
+placeOf g s k = be64 s (g .table + 8 * (k / 2 ^ (g .bits - 1))) + 2 * (k % 2 ^ (g .bits - 1))
+
+-- it can be found
+pub record Reach (g : Geometry) (s : List ℕ) (k : ℕ) : Type 0 where
+  pub low : 1 ≤ g .bits
+  pub high : g .bits ≤ 16
+  pub named : Named g s (k / 2 ^ (g .bits - 1))
+
+-- count k of a block is 0
+unfoldable pub zeroCount : List ℕ → ℕ → Bool
+zeroCount block k = eqb (be16 block (2 * k)) 0
+
+-- count k of refcount block b is 0
+unfoldable pub zeroIn : List ℕ → (b k : ℕ) → Bool
+zeroIn s b k = eqb (be16 s (blockAt s b + 2 * k)) 0

@@ -1,0 +1,59 @@
+-- What storing new clusters and their entries is told: places that lie in the image, though not apart from each other.
+-- Assumes nothing.
+use Prim.Native.Nat.{ℕ, _+_, _*_, _%_, _≤_}
+use mathlib.Core.List.{List, [], _∷_, _++_}
+use lib.ListN.{length, replicate}
+use Rattle.units.specs.Units.{UnitStore, count, entry, fill, cluster}
+use Rattle.qcow2_spec.specs.Header.{clusterSize, perTable}
+use Rattle.qcow2_spec.specs.Entries.{newEntry}
+use Rattle.qcow2_spec.specs.Counts.{countAt}
+use Rattle.qcow2_spec.specs.Guest.{l1EntryAt}
+use Rattle.qcow2_store.specs.declared.linking.Cell.{Cell}
+use Rattle.qcow2_store.specs.declared.linking.Cell.the-variants.{Count, Entry}
+use Rattle.qcow2_store.specs.declared.linking.Places.{Places}
+
+-- the unit of a cell, and where it ends
+abbrev pub unitOf : Cell → UnitStore
+unitOf (Count at x) = count at x
+unitOf (Entry at x) = entry at x
+
+abbrev pub endOf : Cell → ℕ
+endOf (Count at x) = at + 2
+endOf (Entry at x) = at + 8
+
+-- a cluster of c bytes at p with the data d from o on, and its entry at a
+pub record Filled (s : List ℕ) (a p c o : ℕ) (d : List ℕ) : Type 0 where
+  pub entered : a + 8 ≤ length s
+  pub inside : p + c ≤ length s
+  pub fits : o + length d ≤ c
+  pub short : length s ≤ 67108864
+
+-- the places of a write that takes cluster t as an L2 table and cluster k for the data
+unfoldable pub places : List ℕ → (g t k : ℕ) → Places
+places s g t k =
+    record {
+      tablecount = countAt s t;
+      table = t * clusterSize s;
+      datacount = countAt s k;
+      place = k * clusterSize s;
+      slot = t * clusterSize s + 8 * (g % perTable s);
+      link = l1EntryAt s g;
+    }
+
+-- each of them lies in the image
+pub record Linked (s : List ℕ) (p : Places) (c : ℕ) : Type 0 where
+  pub tablecounted : p .tablecount + 2 ≤ length s
+  pub tabled : p .table + c ≤ length s
+  pub counted : p .datacount + 2 ≤ length s
+  pub inside : p .place + c ≤ length s
+  pub entered : p .slot + 8 ≤ length s
+  pub linked : p .link + 8 ≤ length s
+  pub short : length s ≤ 67108864
+
+unfoldable pub tableUnits : Places → (c o : ℕ) → List ℕ → List UnitStore
+tableUnits p c o d =
+    (count (p .tablecount) 1 ∷ fill (p .table) (replicate c 0))
+    ++ (count (p .datacount) 1 ∷ fill (p .place) (cluster c o d))
+    ++ entry (p .slot) (newEntry (p .place))
+    ∷ entry (p .link) (newEntry (p .table))
+    ∷ []

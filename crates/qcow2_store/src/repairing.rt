@@ -1,0 +1,106 @@
+// A repair: each count that differs from the scratch's figure is set to it, rising by cluster. The counts of a leaking image lie apart from
+// each other and from the refcount table, so that what is read on the way is what stood there on entry.
+ghost use mathlib.Core.Path.{_≡_};
+ghost use Prim.Native.Nat.{_+_, _-_, _*_, _%_, _^_, _≤_};
+ghost use lib.ListN.{length, take};
+ghost use Rattle.units.specs.Units.{applyAll};
+ghost use Rattle.units.specs.Plan.{units as planned, Done};
+ghost use Rattle.qcow2_spec.specs.Header.{clusters};
+ghost use Rattle.qcow2_spec.specs.References.{figuresOf};
+ghost use Rattle.qcow2_spec.specs.Check.{repairUnits, verdict, verdictPlan};
+ghost use Rattle.qcow2_spec.specs.Opened.{Opened};
+ghost use Rattle.qcow2_store.specs.Blocks.{Reach, placeOf};
+ghost use Rattle.qcow2_store.specs.Leaks.{Figured, Leaking, fix, fixes};
+use crate::free;
+use qcow2_spec::Geometry;
+use qcow2_spec::Verdict;
+use units::Outcome;
+
+// A byte as a wider number.
+fn wide(x: u8) -> u16
+    ensures { λ r. ⌜ r ≡ x ⌝ }
+{
+    x as u16
+}
+
+// The count at a place is to be want. Returns the units of the repair so far, of which n came before; those past the allowance are only counted.
+fn repair_count(image: &mut [u8], at: usize, want: u16, n: usize, allowance: usize) -> usize
+    requires { ⌜ (at + 2 ≤ length (now image)) × (n ≤ 67108864) ⌝ }
+    ensures { λ r. ⌜ (r ≡ n + length (fix (now (image .entry)) at want)) × (now (image .exit) ≡ applyAll (take (allowance - n) (fix (now (image .entry)) at want)) (now (image .entry))) ⌝ }
+{
+    if endian::load16(image, at) == want {
+        return n;
+    }
+    if n < allowance {
+        endian::store16(image, at, want);
+        return n + 1;
+    }
+    n + 1
+}
+
+// The counts from a place on are to be refs.
+fn repair_run(image: &mut [u8], at: usize, refs: &[u8], n: usize, allowance: usize) -> usize
+    requires { ⌜ (at + 2 * length (now refs) ≤ length (now image)) × ((length (now image) ≤ 67108864) × (n + length (now refs) ≤ 67108864)) ⌝ }
+    ensures { λ r. ⌜ (r ≡ n + length (fixes (now (image .entry)) at (now (refs .entry)) (length (now (refs .entry))))) × (now (image .exit) ≡ applyAll (take (allowance - n) (fixes (now (image .entry)) at (now (refs .entry)) (length (now (refs .entry))))) (now (image .entry))) ⌝ }
+{
+    let mut spent = n;
+    let mut j = 0;
+    while j < refs.len() {
+        spent = repair_count(image, at + 2 * j, wide(refs[j]), spent, allowance);
+        j += 1;
+    }
+    spent
+}
+
+// The counts of the clusters from i on, which stand in one block, are to be refs.
+fn repair_block(
+    image: &mut [u8],
+    g: Geometry,
+    i: usize,
+    refs: &[u8],
+    n: usize,
+    allowance: usize,
+) -> usize
+    requires { ⌜ (Reach g (now image) i × (i % 2 ^ (g .bits - 1) + length (now refs) ≤ 2 ^ (g .bits - 1))) × (n + length (now refs) ≤ 67108864) ⌝ }
+    ensures { λ r. ⌜ (r ≡ n + length (fixes (now (image .entry)) (placeOf g (now (image .entry)) i) (now (refs .entry)) (length (now (refs .entry))))) × (now (image .exit) ≡ applyAll (take (allowance - n) (fixes (now (image .entry)) (placeOf g (now (image .entry)) i) (now (refs .entry)) (length (now (refs .entry))))) (now (image .entry))) ⌝ }
+{
+    let at = free::place_of(image, g, i);
+    repair_run(image, at, refs, n, allowance)
+}
+
+// A leaking image, with the figures in refs.
+fn repair(image: &mut [u8], g: Geometry, refs: &[u8], allowance: usize) -> Outcome
+    requires { ⌜ Leaking g (now image) (now refs) ⌝ }
+    ensures { λ r. ⌜ Done (planned (repairUnits (now (image .entry)) (figuresOf (now (image .entry))) 0 (clusters (now (image .entry))))) allowance (now (image .entry)) r (now (image .exit)) ⌝ }
+{
+    let mut i = 0;
+    let mut n = 0;
+    while i < g.clusters {
+        let m = free::run_of(g, i);
+        n = repair_block(image, g, i, &refs[i..i + m], n, allowance);
+        i += m;
+    }
+    units::end_of(n, allowance)
+}
+
+// A repair by the verdict, with the figures that the check left in refs: a damaged image is refused.
+pub fn verdict_repair(
+    image: &mut [u8],
+    g: Geometry,
+    v: Verdict,
+    refs: &[u8],
+    allowance: usize,
+) -> Outcome
+    requires { ⌜ (Opened g (now image) × Figured (now image) (now refs)) × (v ≡ verdict (now image)) ⌝ }
+    ensures { λ r. ⌜ Done (verdictPlan (now (image .entry)) v) allowance (now (image .entry)) r (now (image .exit)) ⌝ }
+{
+    match v {
+        Verdict::Sound => units::end_of(0, allowance),
+        Verdict::Leaks(_) => repair(image, g, refs, allowance),
+        Verdict::BadL1(_) => Outcome::Refused(17),
+        Verdict::BadL2(_, _) => Outcome::Refused(17),
+        Verdict::Shared(_) => Outcome::Refused(17),
+        Verdict::Short(_) => Outcome::Refused(17),
+        Verdict::Refused(k) => Outcome::Refused(k),
+    }
+}
