@@ -1,0 +1,102 @@
+// The calls for programs in C or Rust: numbers and byte slices only. include/qcow2_core.h declares them.
+ghost use mathlib.Core.Path.{_≡_};
+ghost use lib.ListN.{length};
+ghost use Rattle.tally.specs.Tally.{difference};
+ghost use Rattle.units.specs.Plan.{outcome, after};
+ghost use Rattle.qcow2_spec.specs.Guest.{translate, readNumber, readInto, inPlace};
+ghost use Rattle.qcow2_spec.specs.Store.{writePlan, discardPlan};
+ghost use Rattle.qcow2_spec.specs.References.{scratchLeft};
+ghost use Rattle.qcow2_spec.specs.Check.{check, repairPlan};
+ghost use Rattle.qcow2_c.specs.Codes.{foundCode, foundHost, outcomeCode, outcomeUnits, verdictCode, verdictFirst, verdictSecond};
+
+mod codes;
+
+#[no_mangle]
+pub extern "C" fn qcow2_translate(image: &[u8], offset: u64, host: &mut u64) -> u32
+    ensures { λ r. ⌜ (r ≡ foundCode (translate (now (image .entry)) offset)) × (now (host .exit) ≡ foundHost (translate (now (image .entry)) offset)) ⌝ }
+{
+    let f = qcow2::translate(image, offset);
+    *host = codes::found_host(f);
+    codes::found_code(f)
+}
+
+#[no_mangle]
+pub extern "C" fn qcow2_read(image: &[u8], offset: u64, out: &mut [u8]) -> u32
+    ensures { λ r. ⌜ (r ≡ readNumber (now (image .entry)) offset (length (now (out .entry)))) × (now (out .exit) ≡ readInto (now (image .entry)) offset (now (out .entry))) ⌝ }
+{
+    qcow2::read(image, offset, out) as u32
+}
+
+// How many guest bytes lie in place; they start at the host offset that qcow2_translate gives.
+#[no_mangle]
+pub extern "C" fn qcow2_lookup(image: &[u8], offset: u64) -> usize
+    ensures { λ r. ⌜ r ≡ length (inPlace (now (image .entry)) offset) ⌝ }
+{
+    qcow2::lookup(image, offset).len()
+}
+
+#[no_mangle]
+pub extern "C" fn qcow2_write(
+    image: &mut [u8],
+    offset: u64,
+    src: &[u8],
+    allowance: usize,
+    units: &mut u64,
+) -> u32
+    ensures { λ r. ⌜ ((r ≡ outcomeCode (outcome (writePlan (now (image .entry)) offset (now (src .entry))) allowance)) × (now (units .exit) ≡ outcomeUnits (outcome (writePlan (now (image .entry)) offset (now (src .entry))) allowance))) × (now (image .exit) ≡ after (writePlan (now (image .entry)) offset (now (src .entry))) allowance (now (image .entry))) ⌝ }
+{
+    let o = qcow2::write(image, offset, src, allowance);
+    *units = codes::outcome_units(o);
+    codes::outcome_code(o)
+}
+
+#[no_mangle]
+pub extern "C" fn qcow2_discard(
+    image: &mut [u8],
+    cluster: u64,
+    allowance: usize,
+    units: &mut u64,
+) -> u32
+    ensures { λ r. ⌜ ((r ≡ outcomeCode (outcome (discardPlan (now (image .entry)) cluster) allowance)) × (now (units .exit) ≡ outcomeUnits (outcome (discardPlan (now (image .entry)) cluster) allowance))) × (now (image .exit) ≡ after (discardPlan (now (image .entry)) cluster) allowance (now (image .entry))) ⌝ }
+{
+    let o = qcow2::discard(image, cluster, allowance);
+    *units = codes::outcome_units(o);
+    codes::outcome_code(o)
+}
+
+#[no_mangle]
+pub extern "C" fn qcow2_repair(
+    image: &mut [u8],
+    scratch: &mut [u8],
+    allowance: usize,
+    units: &mut u64,
+) -> u32
+    ensures { λ r. ⌜ ((r ≡ outcomeCode (outcome (repairPlan (now (image .entry)) (length (now (scratch .entry)))) allowance)) × (now (units .exit) ≡ outcomeUnits (outcome (repairPlan (now (image .entry)) (length (now (scratch .entry)))) allowance))) × ((now (image .exit) ≡ after (repairPlan (now (image .entry)) (length (now (scratch .entry)))) allowance (now (image .entry))) × (now (scratch .exit) ≡ scratchLeft (now (image .entry)) (now (scratch .entry)))) ⌝ }
+{
+    let o = qcow2::repair(image, scratch, allowance);
+    *units = codes::outcome_units(o);
+    codes::outcome_code(o)
+}
+
+#[no_mangle]
+pub extern "C" fn qcow2_check(
+    image: &[u8],
+    scratch: &mut [u8],
+    first: &mut u64,
+    second: &mut u64,
+) -> u32
+    ensures { λ r. ⌜ ((r ≡ verdictCode (check (now (image .entry)) (length (now (scratch .entry))))) × ((now (first .exit) ≡ verdictFirst (check (now (image .entry)) (length (now (scratch .entry))))) × (now (second .exit) ≡ verdictSecond (check (now (image .entry)) (length (now (scratch .entry))))))) × (now (scratch .exit) ≡ scratchLeft (now (image .entry)) (now (scratch .entry))) ⌝ }
+{
+    let v = qcow2::check(image, scratch);
+    *first = codes::verdict_first(v);
+    *second = codes::verdict_second(v);
+    codes::verdict_code(v)
+}
+
+// A stored count less the scratch's figure, with its sign: below zero the cluster is short.
+#[no_mangle]
+pub extern "C" fn qcow2_difference(stored: u16, figure: u8) -> i32
+    ensures { λ r. ⌜ r ≡ difference stored figure ⌝ }
+{
+    tally::against::difference(stored, figure)
+}
