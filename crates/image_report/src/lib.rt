@@ -1,4 +1,5 @@
 // What the small program writes of an image. Paper 01, "The bench image".
+ghost use Prim.Native.Nat.{_≤_};
 ghost use Rattle.qcow2_spec.specs.Opened.{Opened};
 use qcow2_spec::Geometry;
 use qcow2_spec::Judged;
@@ -7,7 +8,7 @@ use qcow2_spec::Verdict;
 // A field: a tab and a number.
 fn field(fd: i32, n: u64) {
     io::write_all(fd, b"\t");
-    io::number::print_decimal(fd, n);
+    io::print_decimal(fd, n);
 }
 
 fn refused(fd: i32, k: u8) {

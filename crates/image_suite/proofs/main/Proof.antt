@@ -1,0 +1,24 @@
+use Prim.Native.Nat.{_-_, _≤_}
+use borrow.Author.Needs.{needs}
+use Rattle.image_suite.proofs.main.Statement.{statement}
+use Rattle.image_suite.proofs.main.Tie as tie
+
+abbrev Inv-loop : tie.InvT-loop
+Inv-loop i₀ i-end i = 0 ≤ i
+
+abbrev μ-loop : tie.MeasureT-loop
+μ-loop i₀ i-end i = i-end - i
+
+pub main-spec : {M : Type 1} → statement M
+main-spec =
+    tie.close
+    (tie.spec
+    Inv-loop
+    μ-loop
+    (search needs)
+    (search needs)
+    (search needs)
+    (search needs)
+    (search needs)
+    (search needs)
+    (search needs))
