@@ -18,7 +18,7 @@ use Rattle.qcow2_spec.specs.Check.{l2Verdict, entryVerdict, l1Verdict}
 use Rattle.qcow2_spec.specs.declared.Verdict.{Verdict}
 use Rattle.qcow2_spec.specs.declared.Verdict.the-variants.{Sound, BadL1, BadL2}
 use Rattle.qcow2_check.specs.Known.{rowAt, rowBad, belowCount, belowBad}
-use Rattle.qcow2_check.proofs.Entries.{be64-drop, entries-turn, entries-none}
+use Rattle.endian.proofs.Entries.{be64-drop, entries-turn, entries-none}
 
 -- what is found from L1 entry i on, and from entry j below it on
 unfoldable pub rowsFrom : List ℕ → ℕ → Verdict

@@ -1,11 +1,10 @@
 -- Laws of the verdict: by the counts where all entries are good, else by the first bad entry.
 -- Assumes nothing.
-use Prim.Native.Nat.{ℕ, suc, _≤_, _<_}
+use Prim.Native.Nat.{ℕ, suc}
 use mathlib.Core.Path.{_≡_, refl, sym, ap, _∙_}
 use mathlib.Core.Bool.{Bool, true, false, not, _&&_, _||_, true≢false}
 use mathlib.Core.List.{List, [], _∷_}
-use borrow.Author.Tests.{lt-ltb, le-ltb}
-use lib.Dec.{eqb}
+use lib.Dec.{eqb, ltb}
 use lib.ListN.{length, replicate}
 use Rattle.choice.specs.Pick.{if_then_else_, all, first, count}
 use Rattle.choice.proofs.Tests.{and-true}
@@ -18,23 +17,11 @@ use Rattle.qcow2_spec.specs.Check.{l2Verdict, entryVerdict, l1Verdict, tableGoo
 use Rattle.qcow2_spec.specs.declared.Verdict.{Verdict}
 use Rattle.qcow2_spec.specs.declared.Verdict.the-variants.{Sound, Leaks, BadL1, BadL2, Shared, Short}
 
--- the verdict on the counts, in the code's order
-module _ (s fs : List ℕ) (N a low leaks : ℕ) (hN : N ≡ clusters s) (ha : a ≡ first (twice fs) 0 N) where
-  pub verdict-shared : a < N → Shared a ≡ countsVerdict s fs
-  unfolding countsVerdict
-  verdict-shared h = rw (← hN, ← ha, lt-ltb a N h)
-
-  pub verdict-short : N ≤ a → low ≡ first (short s fs) 0 N → low < N → Short low ≡ countsVerdict s fs
-  unfolding countsVerdict
-  verdict-short h e l = rw (← hN, ← ha, le-ltb a N h, ← e, lt-ltb low N l)
-
-  pub verdict-leaks : N ≤ a → low ≡ first (short s fs) 0 N → N ≤ low → leaks ≡ count (over s fs) 0 N → 0 < leaks → Leaks leaks ≡ countsVerdict s fs
-  unfolding countsVerdict
-  verdict-leaks h e l f g = rw (← hN, ← ha, le-ltb a N h, ← e, le-ltb low N l, ← f, lt-ltb 0 leaks g)
-
-  pub verdict-sound : N ≤ a → low ≡ first (short s fs) 0 N → N ≤ low → leaks ≡ count (over s fs) 0 N → leaks ≤ 0 → Sound ≡ countsVerdict s fs
-  unfolding countsVerdict
-  verdict-sound h e l f g = rw (← hN, ← ha, le-ltb a N h, ← e, le-ltb low N l, ← f, le-ltb 0 leaks g)
+-- the verdict on the counts, by what the code has found
+pub counts-tell : (s fs : List ℕ) (N a low leaks : ℕ) → N ≡ clusters s → a ≡ first (twice fs) 0 N → low ≡ first (short s fs) 0 N → leaks ≡ count (over s fs) 0 N
+    → (if ltb a N then Shared a else if ltb low N then Short low else if ltb 0 leaks then Leaks leaks else Sound) ≡ countsVerdict s fs
+unfolding countsVerdict
+counts-tell s fs N a low leaks hN ha hl hk = rw (← hN, ← ha, ← hl, ← hk)
 
 -- where all entries are good nothing is found, and else it does not matter what comes after
 l2-all : (good : ℕ → Bool) (i j : ℕ) (es : List ℕ) (next : Verdict) → all good es ≡ true → l2Verdict good i j es next ≡ next

@@ -17,8 +17,8 @@ use Rattle.qcow2_spec.specs.Header.{version, clusterSize, perTable}
 use Rattle.qcow2_spec.specs.Entries.{place, goodPlace, goodL1, goodL2, compressed, zeroMark}
 use Rattle.qcow2_spec.specs.References.{named, l2Refs, l2Entries, tableRefs, l1Refs}
 use Rattle.qcow2_spec.specs.Check.{tableGood, entryGood}
-use Rattle.qcow2_check.specs.Known.{Walking}
-use Rattle.qcow2_check.proofs.Entries.{entries-turn, entries-none}
+use Rattle.qcow2_check.specs.Known.{Walking, Passed, whole}
+use Rattle.endian.proofs.Entries.{entries-turn, entries-none}
 
 -- what is to be counted from entry j of k on: entry j first; nothing at the end
 module _ (f : ℕ → List ℕ) (k j : ℕ) (t : List ℕ) where
@@ -43,8 +43,11 @@ module _ {f : ℕ → List ℕ} {p : ℕ → Bool} {es₀ s₀ : List ℕ} (k j 
     tested = rw (g, and-assoc) (rw (entries-turn k j t h) at (w .tested));
   }
 
-  pub walking-last : k ≤ j → (good ≡ all p es₀) × (s ≡ bumpAll (joined f es₀) s₀)
-  walking-last h = (sym (and-true good) ∙ (rw (entries-none k j t h) at (w .tested)), sym (refs-end f k j t h s) ∙ w .counted)
+  pub walking-last : k ≤ j → Passed f p es₀ s₀ s good
+  walking-last h = record {
+    tested = sym (and-true good) ∙ (rw (entries-none k j t h) at (w .tested));
+    counted = sym (refs-end f k j t h s) ∙ w .counted;
+  }
 
 -- what a place names, and what an L2 entry refers to
 pub named-none : (C p : ℕ) (s : List ℕ) → p ≡ 0 → s ≡ bumpAll (named C p) s
@@ -76,19 +79,20 @@ zero-refs v C n s = rw (zero-good v C n)
 pub part-of : (s : List ℕ) (p c C : ℕ) → c ≡ C → take (p + c - p) (drop p s) ≡ take C (drop p s)
 part-of s p c C e = rw (e, add-sub-cancel-left)
 
+pub length-part : (s : List ℕ) (p C : ℕ) → p + C ≤ length s → length (take C (drop p s)) ≡ C
+length-part s p C h = length-take-le C (drop p s) (simp length-drop (omega arith))
+
 -- the L2 table at p, handed on as a part of the image
 module _ (s : List ℕ) (v C p : ℕ) (T : List ℕ) (hv : v ≡ version s) (hC : C ≡ clusterSize s) (fits : p + C ≤ length s) (hT : T ≡ take C (drop p s)) where
-  part-entries : entries (length T / 8) T ≡ l2Entries s p
+  part-entries : whole T ≡ l2Entries s p
   unfolding l2Entries perTable
-  part-entries =
-      let l : length T ≡ clusterSize s = rw (hT, ← hC) (length-take-le C (drop p s) (simp length-drop (omega arith))) in
-      rw (l, hT, hC)
+  part-entries = rw (hT, length-part s p C fits, hC)
 
-  pub below-good : all (goodL2 v C (length s)) (entries (length T / 8) T) ≡ tableGood s p
+  pub below-good : all (goodL2 v C (length s)) (whole T) ≡ tableGood s p
   unfolding tableGood
   below-good = rw (part-entries, hv, hC)
 
-  pub below-refs : (S : List ℕ) → bumpAll (joined (l2Refs v C (length s)) (entries (length T / 8) T)) (bumped S (p / C)) ≡ bumpAll (tableRefs s p) S
+  pub below-refs : (S : List ℕ) → bumpAll (joined (l2Refs v C (length s)) (whole T)) (bumped S (p / C)) ≡ bumpAll (tableRefs s p) S
   unfolding tableRefs bumpAll
   below-refs S = rw (part-entries, hv, hC)
 

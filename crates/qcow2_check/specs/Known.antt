@@ -1,18 +1,20 @@
 -- What the check's functions know when they are called, and what they promise each other.
 -- Assumes nothing.
-use Prim.Native.Nat.{ℕ, _+_, _*_, _^_, _≤_, _<_}
+use Prim.Native.Nat.{ℕ, _+_, _-_, _*_, _/_, _^_, _≤_, _<_}
 use mathlib.Core.Path.{_≡_}
 use mathlib.Core.Bool.{Bool, true, false, not, _&&_}
 use mathlib.Core.List.{List}
 use lib.Dec.{eqb}
-use lib.ListN.{length}
+use lib.ListN.{length, drop}
 use Rattle.choice.specs.Pick.{if_then_else_, all}
-use Rattle.endian.specs.Big.{be16, be64, part}
-use Rattle.tally.specs.Tally.{bumpAll, joined}
+use Rattle.endian.specs.Big.{be16, be64, part, entries}
+use Rattle.tally.specs.Tally.{bumpAll, joined, Counting}
 use Rattle.qcow2_spec.specs.Header.{version, clusterSize, perTable, l1At}
 use Rattle.qcow2_spec.specs.Entries.{place, goodL1, goodL2}
 use Rattle.qcow2_spec.specs.Counts.{countOf}
 use Rattle.qcow2_spec.specs.References.{l2Refs}
+use Rattle.qcow2_spec.specs.Check.{short, over}
+use Rattle.tally.specs.declared.Counted.{Counted}
 use Rattle.qcow2_check.specs.declared.Progress.{Progress}
 
 -- the scratch has a byte for each cluster of an image of n bytes
@@ -34,6 +36,18 @@ pub record Walking (f : ℕ → List ℕ) (p : ℕ → Bool) (es₀ s₀ es s : 
   pub counted : bumpAll (joined f es) s ≡ bumpAll (joined f es₀) s₀
   pub tested : (good && all p es) ≡ all p es₀
 
+-- what such a walk holds at its end
+pub record Passed (f : ℕ → List ℕ) (p : ℕ → Bool) (es before after : List ℕ) (good : Bool) : Type 0 where
+  pub tested : good ≡ all p es
+  pub counted : after ≡ bumpAll (joined f es) before
+
+-- the entries of a table that is lent whole, and those from index j on
+abbrev pub whole : List ℕ → List ℕ
+whole t = entries (length t / 8) t
+
+abbrev pub onFrom : ℕ → List ℕ → List ℕ
+onFrom j t = entries (length t / 8 - j) (drop (8 * j) t)
+
 -- a walk once an entry more is passed
 unfoldable pub walked : Progress → Bool → Progress
 walked w good = record { row = w .row + 1; good = w .good && good }
@@ -42,6 +56,10 @@ walked w good = record { row = w .row + 1; good = w .good && good }
 pub record Block (s : List ℕ) (base m at : ℕ) : Type 0 where
   pub inside : at + 2 * m ≤ length s
   pub stands : (j : ℕ) → j < m → countOf s (base + j) ≡ be16 s (at + 2 * j)
+
+-- the first k clusters are judged by their counts and the figures fs
+abbrev pub Judging : (s fs : List ℕ) (k : ℕ) → Counted → Type 0
+Judging s fs k c = Counting (short s fs) (over s fs) (length fs) k c
 
 -- count j of a block is 0
 unfoldable pub zeroAt : List ℕ → ℕ → Bool

@@ -1,22 +1,15 @@
-// The refcount blocks, and the counts of 0 in them.
+// Counts of 0 in the refcount blocks.
 ghost use mathlib.Core.Path.{_≡_};
-ghost use Prim.Native.Nat.{_+_, _*_, _^_, _≤_, _<_};
+ghost use Prim.Native.Nat.{_*_, _≤_, _<_};
 ghost use lib.Dec.{eqb};
 ghost use lib.ListN.{length};
 ghost use Rattle.choice.specs.Pick.{if_then_else_, count};
-ghost use Rattle.qcow2_spec.specs.Header.{perBlock, blockAt};
+ghost use Rattle.qcow2_spec.specs.Header.{perBlock};
 ghost use Rattle.qcow2_spec.specs.Counts.{freeAt};
 ghost use Rattle.qcow2_spec.specs.Opened.{Opened};
 ghost use Rattle.qcow2_check.specs.Known.{zeroAt};
+use crate::lookup;
 use qcow2_spec::Geometry;
-
-// The place of refcount block b.
-pub(crate) fn block_at(image: &[u8], b: usize, g: Geometry) -> usize
-    requires { ⌜ Opened g (now image) × (b < g .blocks) ⌝ }
-    ensures { λ r. ⌜ (r ≡ blockAt (now (image .entry)) b) × (r + 2 ^ g .bits ≤ length (now (image .entry))) ⌝ }
-{
-    endian::load64(image, g.table + 8 * b) as usize
-}
 
 // 1 for a count of 0.
 fn one_free(stored: u16) -> usize
@@ -44,7 +37,7 @@ pub(crate) fn free_in(image: &[u8], b: usize, m: usize, g: Geometry) -> usize
     requires { ⌜ Opened g (now image) × ((b < g .blocks) × (m ≤ perBlock (now image))) ⌝ }
     ensures { λ r. ⌜ (r ≡ count (freeAt (now (image .entry))) (b * perBlock (now (image .entry))) m) × (r ≤ m) ⌝ }
 {
-    let at = block_at(image, b, g);
+    let at = lookup::block_at(image, b, g);
     let c = power::power(g.bits) as usize;
     zeros_in(&image[at..at + c], m)
 }

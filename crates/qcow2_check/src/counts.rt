@@ -2,11 +2,10 @@
 ghost use mathlib.Core.Path.{_≡_};
 ghost use Prim.Native.Nat.{_+_, _≤_};
 ghost use lib.ListN.{length};
-ghost use Rattle.tally.specs.Tally.{Counting};
-ghost use Rattle.qcow2_spec.specs.Check.{short, over, countsVerdict};
+ghost use Rattle.qcow2_spec.specs.Check.{countsVerdict};
 ghost use Rattle.qcow2_spec.specs.Opened.{Opened};
-ghost use Rattle.qcow2_check.specs.Known.{Block};
-use crate::blocks;
+ghost use Rattle.qcow2_check.specs.Known.{Block, Judging};
+use crate::lookup;
 use qcow2_spec::Geometry;
 use qcow2_spec::Verdict;
 use tally::Counted;
@@ -20,8 +19,8 @@ fn judge_block(
     base: usize,
     m: usize,
 ) -> Counted
-    requires { ⌜ Block (now image) base m at × (((base + m ≤ length (now scratch)) × (length (now scratch) ≤ 67108864)) × Counting (short (now image) (now scratch)) (over (now image) (now scratch)) (length (now scratch)) base c) ⌝ }
-    ensures { λ r. ⌜ Counting (short (now (image .entry)) (now (scratch .entry))) (over (now (image .entry)) (now (scratch .entry))) (length (now (scratch .entry))) (base + m) r ⌝ }
+    requires { ⌜ Block (now image) base m at × (((base + m ≤ length (now scratch)) × (length (now scratch) ≤ 67108864)) × Judging (now image) (now scratch) base c) ⌝ }
+    ensures { λ r. ⌜ Judging (now (image .entry)) (now (scratch .entry)) (base + m) r ⌝ }
 {
     let clusters = scratch.len();
     let mut d = c;
@@ -37,7 +36,7 @@ fn judge_block(
 // All clusters, block by block.
 fn judge_blocks(image: &[u8], scratch: &[u8], g: Geometry) -> Counted
     requires { ⌜ Opened g (now image) × (length (now scratch) ≡ g .clusters) ⌝ }
-    ensures { λ r. ⌜ Counting (short (now (image .entry)) (now (scratch .entry))) (over (now (image .entry)) (now (scratch .entry))) (g .clusters) (g .clusters) r ⌝ }
+    ensures { λ r. ⌜ Judging (now (image .entry)) (now (scratch .entry)) (g .clusters) r ⌝ }
 {
     let per = (power::power(g.bits) / 2) as usize;
     let n = scratch.len();
@@ -45,7 +44,7 @@ fn judge_blocks(image: &[u8], scratch: &[u8], g: Geometry) -> Counted
     let mut b = 0;
     let mut k = 0;
     while k < n {
-        let at = blocks::block_at(image, b, g);
+        let at = lookup::block_at(image, b, g);
         let m = power::lesser(per, n - k);
         d = judge_block(d, image, scratch, at, k, m);
         k += m;
@@ -59,16 +58,19 @@ pub(crate) fn judge_counts(image: &[u8], scratch: &[u8], g: Geometry) -> Verdict
     requires { ⌜ Opened g (now image) × (length (now scratch) ≡ g .clusters) ⌝ }
     ensures { λ r. ⌜ r ≡ countsVerdict (now (image .entry)) (now (scratch .entry)) ⌝ }
 {
+    let n = scratch.len();
     let shared = tally::lowest_shared(scratch);
-    if shared < scratch.len() {
+    let d = judge_blocks(image, scratch, g);
+    let low = d.low;
+    let over = d.over;
+    if shared < n {
         return Verdict::Shared(shared);
     }
-    let d = judge_blocks(image, scratch, g);
-    if d.low < scratch.len() {
-        return Verdict::Short(d.low);
+    if low < n {
+        return Verdict::Short(low);
     }
-    if 0 < d.over {
-        return Verdict::Leaks(d.over);
+    if 0 < over {
+        return Verdict::Leaks(over);
     }
     Verdict::Sound
 }

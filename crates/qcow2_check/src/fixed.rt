@@ -7,7 +7,7 @@ ghost use Rattle.tally.specs.Tally.{bumpAll, run, joined};
 ghost use Rattle.qcow2_spec.specs.Header.{clusterSize, blocks as blocksOf, table as tableOf};
 ghost use Rattle.qcow2_spec.specs.References.{named, fixedRefs};
 ghost use Rattle.qcow2_spec.specs.Opened.{Opened};
-use crate::blocks;
+use crate::lookup;
 use crate::walk;
 use qcow2_spec::Geometry;
 
@@ -18,7 +18,7 @@ fn count_blocks(image: &[u8], scratch: &mut [u8], g: Geometry)
 {
     let mut b = 0;
     while b < g.blocks {
-        let at = blocks::block_at(image, b, g);
+        let at = lookup::block_at(image, b, g);
         walk::count_place(scratch, at as u64, g.bits);
         b += 1;
     }

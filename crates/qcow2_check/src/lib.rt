@@ -10,11 +10,12 @@ ghost use Rattle.qcow2_spec.specs.Opened.{Opened};
 use qcow2_spec::Geometry;
 use qcow2_spec::Verdict;
 
-pub mod blocks;
-pub mod counts;
-pub mod fixed;
-pub mod search;
-pub mod walk;
+mod blocks;
+mod counts;
+mod fixed;
+mod lookup;
+mod search;
+mod walk;
 
 // The state of a walk over the L1 table: the next entry, and whether all so far were good.
 pub struct Progress {

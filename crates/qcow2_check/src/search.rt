@@ -10,6 +10,7 @@ ghost use Rattle.qcow2_spec.specs.Check.{l1Verdict};
 ghost use Rattle.qcow2_spec.specs.Opened.{Opened};
 ghost use Rattle.qcow2_spec.specs.declared.Verdict.the-variants.{Sound};
 ghost use Rattle.qcow2_check.specs.Known.{rowBad, belowCount, belowBad};
+use crate::lookup;
 use qcow2_spec::Geometry;
 use qcow2_spec::Verdict;
 
@@ -18,7 +19,7 @@ fn row_bad(image: &[u8], i: usize, g: Geometry) -> bool
     requires { ⌜ Opened g (now image) × (i < g .rows) ⌝ }
     ensures { λ r. ⌜ r ≡ rowBad (now (image .entry)) i ⌝ }
 {
-    let e = endian::load64(image, g.l1 + 8 * i);
+    let e = lookup::row_at(image, i, g);
     !qcow2_entry::good_l1(e, image.len() as u64, g.bits)
 }
 
@@ -27,7 +28,7 @@ fn below_count(image: &[u8], i: usize, g: Geometry) -> usize
     requires { ⌜ Opened g (now image) × (i < g .rows) ⌝ }
     ensures { λ r. ⌜ r ≡ belowCount (now (image .entry)) i ⌝ }
 {
-    if qcow2_entry::place_of(endian::load64(image, g.l1 + 8 * i)) == 0 {
+    if qcow2_entry::place_of(lookup::row_at(image, i, g)) == 0 {
         return 0;
     }
     (power::power(g.bits) / 8) as usize
@@ -46,7 +47,7 @@ fn below_bad(image: &[u8], i: usize, j: usize, g: Geometry) -> bool
     requires { ⌜ Opened g (now image) × ((i < g .rows) × ((rowBad (now image) i ≡ false) × (j < belowCount (now image) i))) ⌝ }
     ensures { λ r. ⌜ r ≡ belowBad (now (image .entry)) i j ⌝ }
 {
-    let p = qcow2_entry::place_of(endian::load64(image, g.l1 + 8 * i)) as usize;
+    let p = qcow2_entry::place_of(lookup::row_at(image, i, g)) as usize;
     let c = power::power(g.bits) as usize;
     entry_bad(&image[p..p + c], j, g.version, g.bits, image.len() as u64)
 }

@@ -1,17 +1,16 @@
 // Counting the references of the L1 and L2 tables in the scratch. A bad entry counts for nothing, and the counting goes on past it.
 ghost use mathlib.Core.Path.{_≡_};
 ghost use mathlib.Core.Bool.{true, _&&_};
-ghost use Prim.Native.Nat.{_+_, _-_, _*_, _/_, _^_, _≤_, _<_};
-ghost use lib.ListN.{length, drop};
-ghost use Rattle.choice.specs.Pick.{all};
-ghost use Rattle.endian.specs.Big.{be64, entries};
-ghost use Rattle.tally.specs.Tally.{bumpAll, joined};
+ghost use Prim.Native.Nat.{_+_, _*_, _/_, _^_, _≤_, _<_};
+ghost use lib.ListN.{length};
+ghost use Rattle.tally.specs.Tally.{bumpAll};
 ghost use Rattle.qcow2_spec.specs.Entries.{goodL2};
 ghost use Rattle.qcow2_spec.specs.References.{named, l2Refs, tableRefs, l1Refs, l1Entries};
 ghost use Rattle.qcow2_spec.specs.Check.{tableGood, entryGood};
 ghost use Rattle.qcow2_spec.specs.Opened.{Opened};
-ghost use Rattle.qcow2_check.specs.Known.{Room, Tried, Walking, walked};
+ghost use Rattle.qcow2_check.specs.Known.{Room, Tried, Walking, Passed, whole, onFrom, walked, rowAt};
 use crate::Progress;
+use crate::lookup;
 use qcow2_spec::Geometry;
 
 fn both(a: bool, b: bool) -> bool
@@ -68,7 +67,7 @@ fn plain_entry(scratch: &mut [u8], e: u64, version: u32, bits: u32, n: u64) -> b
 // The same for the first entries of an L2 table, as long as they are so. Returns how many.
 fn walk_plain(table: &[u8], scratch: &mut [u8], version: u32, bits: u32, n: u64) -> usize
     requires { ⌜ Room (now scratch) bits n ⌝ }
-    ensures { λ r. ⌜ (r ≤ length (now (table .entry)) / 8) × Walking (l2Refs version (2 ^ bits) n) (goodL2 version (2 ^ bits) n) (entries (length (now (table .entry)) / 8) (now (table .entry))) (now (scratch .entry)) (entries (length (now (table .entry)) / 8 - r) (drop (8 * r) (now (table .entry)))) (now (scratch .exit)) true ⌝ }
+    ensures { λ r. ⌜ (r ≤ length (now (table .entry)) / 8) × Walking (l2Refs version (2 ^ bits) n) (goodL2 version (2 ^ bits) n) (whole (now (table .entry))) (now (scratch .entry)) (onFrom r (now (table .entry))) (now (scratch .exit)) true ⌝ }
 {
     let per = table.len() / 8;
     let mut j = 0;
@@ -86,7 +85,7 @@ fn walk_plain(table: &[u8], scratch: &mut [u8], version: u32, bits: u32, n: u64)
 // Counts what the entries of an L2 table refer to, and says whether all are good.
 fn walk_table(table: &[u8], scratch: &mut [u8], version: u32, bits: u32, n: u64) -> bool
     requires { ⌜ Room (now scratch) bits n ⌝ }
-    ensures { λ r. ⌜ (r ≡ all (goodL2 version (2 ^ bits) n) (entries (length (now (table .entry)) / 8) (now (table .entry)))) × (now (scratch .exit) ≡ bumpAll (joined (l2Refs version (2 ^ bits) n) (entries (length (now (table .entry)) / 8) (now (table .entry)))) (now (scratch .entry))) ⌝ }
+    ensures { λ r. ⌜ Passed (l2Refs version (2 ^ bits) n) (goodL2 version (2 ^ bits) n) (whole (now (table .entry))) (now (scratch .entry)) (now (scratch .exit)) r ⌝ }
 {
     let per = table.len() / 8;
     let mut good = true;
@@ -134,9 +133,9 @@ fn walk_row(image: &[u8], scratch: &mut [u8], e: u64, g: Geometry) -> bool
 // One L1 entry more.
 pub(crate) fn next_row(w: Progress, image: &[u8], scratch: &mut [u8], g: Geometry) -> Progress
     requires { ⌜ Opened g (now image) × ((length (now scratch) ≡ g .clusters) × (w .row < g .rows)) ⌝ }
-    ensures { λ r. ⌜ (r ≡ walked w (entryGood (now (image .entry)) (be64 (now (image .entry)) (g .l1 + 8 * w .row)))) × (now (scratch .exit) ≡ bumpAll (l1Refs (now (image .entry)) (be64 (now (image .entry)) (g .l1 + 8 * w .row))) (now (scratch .entry))) ⌝ }
+    ensures { λ r. ⌜ (r ≡ walked w (entryGood (now (image .entry)) (rowAt (now (image .entry)) (w .row)))) × (now (scratch .exit) ≡ bumpAll (l1Refs (now (image .entry)) (rowAt (now (image .entry)) (w .row))) (now (scratch .entry))) ⌝ }
 {
-    let e = endian::load64(image, g.l1 + 8 * w.row);
+    let e = lookup::row_at(image, w.row, g);
     let good = walk_row(image, scratch, e, g);
     Progress {
         row: w.row + 1,
@@ -147,7 +146,7 @@ pub(crate) fn next_row(w: Progress, image: &[u8], scratch: &mut [u8], g: Geometr
 // All L1 entries.
 pub(crate) fn walk_rows(image: &[u8], scratch: &mut [u8], g: Geometry) -> bool
     requires { ⌜ Opened g (now image) × (length (now scratch) ≡ g .clusters) ⌝ }
-    ensures { λ r. ⌜ (r ≡ all (entryGood (now (image .entry))) (l1Entries (now (image .entry)))) × (now (scratch .exit) ≡ bumpAll (joined (l1Refs (now (image .entry))) (l1Entries (now (image .entry)))) (now (scratch .entry))) ⌝ }
+    ensures { λ r. ⌜ Passed (l1Refs (now (image .entry))) (entryGood (now (image .entry))) (l1Entries (now (image .entry))) (now (scratch .entry)) (now (scratch .exit)) r ⌝ }
 {
     let mut w = Progress { row: 0, good: true };
     while w.row < g.rows {

@@ -16,7 +16,7 @@ use Rattle.endian.specs.Big.{be32, be64, entries}
 use Rattle.qcow2_spec.specs.Header.{version, clusterSize, clusters, diskSize, l1Size, l1At, tableAt, tableClusters, perBlock, blocks, perTable, table, blockAt, goodBlock, goodTable, unsupported, tooBig, badTables, headerNumber, tableNumber, judge}
 use Rattle.qcow2_spec.specs.Entries.{place, goodPlace, goodL1, goodL2, compressed, zeroMark}
 use Rattle.qcow2_spec.specs.Counts.{countAt}
-use Rattle.qcow2_spec.proofs.Numbers.{be64-drop, take-entries}
+use Rattle.endian.proofs.Entries.{be64-drop, take-entries}
 
 -- a place that is 0 or a cluster inside the image
 pub record Placed (C n p : ℕ) : Type 0 where

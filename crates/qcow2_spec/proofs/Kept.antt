@@ -10,7 +10,7 @@ use Rattle.clusters.proofs.Meta.{rt, blk, cnt, l1, l2}
 use Rattle.clusters.proofs.Call.{Ok}
 use Rattle.choice.specs.Pick.{ceilDiv}
 use Rattle.endian.specs.Big.{be16, be32, be64}
-use Rattle.qcow2_spec.proofs.Numbers.{be64-drop}
+use Rattle.endian.proofs.Entries.{be64-drop}
 use Rattle.qcow2_spec.specs.Header.{version, clusterSize, clusters, diskSize, l1Size, l1At, tableAt, tableClusters, perBlock, blocks, perTable, table, blockAt, unsupported, tooBig, badTables, headerNumber, tableNumber, judge}
 use Rattle.qcow2_spec.specs.Counts.{countAt, countOf}
 use Rattle.qcow2_spec.proofs.Numbers.{mem8, mem2, place-of, entries-cong}

@@ -6,13 +6,9 @@ use mathlib.Core.Path.{_≡_, refl, sym, ap, ap₂, _∙_, subst}
 use mathlib.Core.List.{List, _∷_}
 use lib.ListN.{getD, take, drop}
 use lib.Seq.{getD-take, getD-drop}
+use Rattle.endian.proofs.Entries.{be64-drop}
 use Rattle.clusters.proofs.Cell.{num, enc, num-cong, mem}
 use Rattle.endian.specs.Big.{be16, be32, be64, bytes16, bytes32, bytes64, part, entries}
-
--- a number of a part is a number of the whole
-pub be64-drop : (t : List ℕ) (k i : ℕ) → be64 (drop k t) i ≡ be64 t (k + i)
-unfolding be16 be32 be64
-be64-drop t k i = simp (getD-drop, add-assoc)
 
 pub num2 : (s : List ℕ) (at : ℕ) → num 2 (λ y. getD s y 0) at ≡ be16 s at
 unfolding num be16
@@ -67,9 +63,3 @@ entries-cong zero t u h = refl
 entries-cong (suc k) t u h =
     ap₂ (λ (x : ℕ) (r : List ℕ). x ∷ r) (h 0 (omega arith))
     (entries-cong k (drop 8 t) (drop 8 u) (λ i l. next-number t i ∙ h (suc i) (omega arith) ∙ sym (next-number u i)))
-
-pub take-entries : (b k : ℕ) (t : List ℕ) → b ≤ k → take b (entries k t) ≡ entries b t
-unfolding entries
-take-entries zero k t h = refl
-take-entries (suc b) zero t h = absurd (omega arith)
-take-entries (suc b) (suc k) t h = ap (λ (r : List ℕ). be64 t 0 ∷ r) (take-entries b k (drop 8 t) (omega arith))

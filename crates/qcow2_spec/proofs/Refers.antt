@@ -16,13 +16,13 @@ use Rattle.clusters.proofs.Cell.{mem}
 use Rattle.clusters.proofs.Meta.{same, blk, l1, l2, fix, tab, dat, refsOf, dat-none, dat-some}
 use Rattle.choice.specs.Pick.{if_then_else_, ceilDiv}
 use Rattle.endian.specs.Big.{be64, part, entries}
-use Rattle.qcow2_spec.proofs.Numbers.{be64-drop}
+use Rattle.endian.proofs.Entries.{be64-drop, take-entries}
 use Rattle.qcow2_spec.specs.Header.{version, clusterSize, l1Size, l1At, tableAt, tableClusters, blocks, perTable, table, blockAt}
 use Rattle.qcow2_spec.specs.Entries.{place, goodL1, goodL2}
 use Rattle.tally.specs.Tally.{run, joined, occurrences}
 use Rattle.qcow2_spec.specs.References.{l1Entries, l2Entries, named, l2Refs, tableRefs, l1Refs, fixedRefs, references}
 use Rattle.choice.proofs.Tests.{if-yes, if-no, if-elim}
-use Rattle.qcow2_spec.proofs.Numbers.{part8, take-entries}
+use Rattle.qcow2_spec.proofs.Numbers.{part8}
 use Rattle.qcow2_spec.proofs.Facts.{Facts, Placed, placed, good-place1, good-place2, c-8, c-pos, c-in, block-named}
 use Rattle.qcow2_spec.proofs.Geo.{geo, code}
 use Rattle.qcow2_spec.proofs.Kept.{l1-at, l2-at, blk-own}

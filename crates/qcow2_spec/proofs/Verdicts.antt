@@ -14,7 +14,7 @@ use Rattle.clusters.proofs.Cell.{mem}
 use Rattle.clusters.proofs.Meta.{l1, l2, tab, blk, refsOf, Sound}
 use Rattle.choice.specs.Pick.{if_then_else_, first, count}
 use Rattle.endian.specs.Big.{be64, part, entries}
-use Rattle.qcow2_spec.proofs.Numbers.{be64-drop}
+use Rattle.endian.proofs.Entries.{be64-drop}
 use Rattle.qcow2_spec.specs.Header.{version, clusterSize, clusters, l1Size, l1At, blocks, perTable}
 use Rattle.qcow2_spec.specs.Entries.{place, goodL1, goodL2}
 use Rattle.qcow2_spec.specs.Counts.{countOf}

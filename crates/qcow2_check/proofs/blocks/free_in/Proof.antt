@@ -2,13 +2,11 @@ use borrow.Author.Needs.{needs}
 use native.Mathlib.Omega.{arith}
 use Prim.Native.Nat.{_*_, _^_, _≤_}
 use mathlib.Core.Path.{_≡_, _∙_}
-use lib.ListN.{length, length-drop, take, drop}
-use lib.Seq.{length-take-le}
 use denote.Ref.{now}
 use Rattle.choice.proofs.Searches.{count-most}
 use Rattle.qcow2_check.specs.Known.{zeroAt}
 use Rattle.qcow2_check.proofs.Stored.{block-free, per-is}
-use Rattle.qcow2_check.proofs.Walks.{part-of}
+use Rattle.qcow2_check.proofs.Walks.{part-of, length-part}
 use Rattle.qcow2_check.proofs.blocks.free_in.Statement.{statement}
 use Rattle.qcow2_check.proofs.blocks.free_in.Tie as tie
 
@@ -26,9 +24,9 @@ zeros-in-requires c κs =
     let w = c .before in
     let p = w .before .block-at in
     let a = w .before .before .before .args in
+    let C = 2 ^ a .g .bits in
     let s = now (a .image) in
-    let l : length (take (2 ^ a .g .bits) (drop (p .result) s)) ≡ 2 ^ a .g .bits = length-take-le (2 ^ a .g .bits) (drop (p .result) s) (simp length-drop (omega (arith, p .ensures .1))) in
-    rw (part-of s (p .result) (w .power .result) (2 ^ a .g .bits) (w .power .ensures .0), l) (room w)
+    rw (part-of s (p .result) (w .power .result) C (w .power .ensures .0), length-part s (p .result) C (p .ensures .1)) (room w)
 
 returns : tie.Need-returns
 returns c =

@@ -8,14 +8,14 @@ use lib.Dec.{ltb}
 use denote.Ref.{now}
 use Rattle.qcow2_spec.specs.Check.{short, over}
 use Rattle.qcow2_spec.specs.Counts.{countOf}
-use Rattle.tally.specs.Tally.{Counting}
+use Rattle.qcow2_check.specs.Known.{Judging}
 use Rattle.tally.proofs.Counting.{counting-next}
 use Rattle.qcow2_check.proofs.counts.judge_block.Statement.{statement}
 use Rattle.qcow2_check.proofs.counts.judge_block.Tie as tie
 
 abbrev Inv-loop : tie.InvT-loop
 Inv-loop image scratch at base m clusters d₀ j₀ d j =
-    (j ≤ m) × Counting (short image scratch) (over image scratch) (length scratch) (base + j) d
+    (j ≤ m) × Judging image scratch (base + j) d
 
 abbrev μ-loop : tie.MeasureT-loop
 μ-loop image scratch at base m clusters d₀ j₀ d j = m - j

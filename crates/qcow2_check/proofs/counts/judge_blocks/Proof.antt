@@ -5,9 +5,8 @@ use Prim.Native.Nat.{_-_, _*_, _/_, _<_, _≤_, min}
 use mathlib.Core.Path.{_≡_}
 use lib.ListN.{length}
 use denote.Ref.{now}
-use Rattle.tally.specs.Tally.{Counting}
 use Rattle.tally.proofs.Counting.{counting-first}
-use Rattle.qcow2_spec.specs.Check.{short, over}
+use Rattle.qcow2_check.specs.Known.{Judging}
 use Rattle.qcow2_check.proofs.Runs.{few-clusters}
 use Rattle.qcow2_check.proofs.Stored.{block-stands, at-block, per-is, some-per, next-block}
 use Rattle.qcow2_check.proofs.counts.judge_blocks.Statement.{statement}
@@ -15,7 +14,7 @@ use Rattle.qcow2_check.proofs.counts.judge_blocks.Tie as tie
 
 abbrev Inv-loop : tie.InvT-loop
 Inv-loop image scratch g per n d₀ b₀ k₀ d b k =
-    (k ≤ n) × (k ≡ min (b * per) n) × Counting (short image scratch) (over image scratch) n k d
+    (k ≤ n) × (k ≡ min (b * per) n) × Judging image scratch k d
 
 abbrev μ-loop : tie.MeasureT-loop
 μ-loop image scratch g per n d₀ b₀ k₀ d b k = n - k
@@ -71,8 +70,8 @@ returns : tie.Need-returns Inv-loop μ-loop
 returns c =
     let t = c .before in
     let b = t .before .before .before .before in
-    let e : t .loop .k ≡ length (now (b .args .scratch)) = omega arith in
-    rw (e, b .pre .1) at (t .loop .inv .2)
+    let e : t .loop .k ≡ b .args .g .clusters = omega (arith, b .pre .1) in
+    rw e at (t .loop .inv .2)
 
 pub judge-blocks-spec : {M : Type 1} → statement M
 judge-blocks-spec =

@@ -10,7 +10,7 @@ use Rattle.endian.specs.Big.{entries}
 use Rattle.tally.specs.Tally.{bumpAll, joined}
 use Rattle.qcow2_spec.specs.Header.{table, blocks, blockAt, tableAt}
 use Rattle.qcow2_spec.specs.References.{named}
-use Rattle.qcow2_check.proofs.Entries.{be64-drop, take-entries}
+use Rattle.endian.proofs.Entries.{be64-drop, take-entries}
 use Rattle.qcow2_check.proofs.Walks.{refs-turn, refs-end}
 use Rattle.qcow2_check.proofs.fixed.count_blocks.Statement.{statement}
 use Rattle.qcow2_check.proofs.fixed.count_blocks.Tie as tie

@@ -4,69 +4,66 @@ use Prim.Native.Nat.{_+_, _^_, _/_, _≤_, _<_}
 use mathlib.Core.Path.{_≡_, ap, _∙_}
 use mathlib.Core.Bool.{true}
 use borrow.Author.Tests.{not-false}
-use lib.ListN.{length, length-drop, take, drop}
-use lib.Seq.{length-take-le}
+use lib.ListN.{length}
 use denote.Ref.{now}
 use Rattle.qcow2_spec.specs.Header.{perTable}
 use Rattle.qcow2_spec.specs.Entries.{place, goodL1}
-use Rattle.qcow2_check.proofs.Places.{place-inside, l1-place}
 use Rattle.qcow2_check.specs.Known.{rowBad, belowBad, rowAt}
-use Rattle.qcow2_check.proofs.Walks.{part-of}
+use Rattle.qcow2_check.proofs.Places.{place-inside, l1-place}
+use Rattle.qcow2_check.proofs.Walks.{part-of, length-part}
 use Rattle.qcow2_check.proofs.Naming.{below-some}
 use Rattle.qcow2_check.proofs.search.below_bad.Statement.{statement}
 use Rattle.qcow2_check.proofs.search.below_bad.Tie as tie
 
+row-at-requires : tie.Need-row-at-requires
+row-at-requires c κs = let b = c .before in (b .pre .0, b .pre .1 .0)
+
 -- the table is inside the image, and the entry inside the table
 inside : (c : tie.After-place-of) →
-    (c .place-of .result ≡ place (rowAt (now (c .before .before .before .before .args .image)) (c .before .before .before .before .args .i)))
-    × ((c .place-of .result + 2 ^ c .before .before .before .before .args .g .bits ≤ length (now (c .before .before .before .before .args .image)))
-    × (c .before .before .before .before .args .j < 2 ^ c .before .before .before .before .args .g .bits / 8))
-unfolding rowBad rowAt perTable
+    (c .place-of .result ≡ place (rowAt (now (c .before .before .before .args .image)) (c .before .before .before .args .i)))
+    × ((c .place-of .result + 2 ^ c .before .before .before .args .g .bits ≤ length (now (c .before .before .before .args .image)))
+    × (c .before .before .before .args .j < 2 ^ c .before .before .before .args .g .bits / 8))
+unfolding rowBad perTable
 inside c =
-    let b = c .before .before .before .before in
+    let b = c .before .before .before in
     let a = b .args in
     let o = b .pre .0 in
     let s = now (a .image) in
     let x = rowAt s (a .i) in
-    let e : c .place-of .result ≡ place x = c .place-of .ensures .0 ∙ ap place (rw (← o .is-l1) (c .before .load64 .ensures)) in
+    let e : c .place-of .result ≡ place x = c .place-of .ensures .0 ∙ ap place (c .before .row-at .ensures) in
     let g : goodL1 (2 ^ a .g .bits) (length s) x ≡ true = rw (o .is-cluster) (not-false _ (b .pre .1 .1 .0)) in
     let w = below-some s (a .i) (a .j) (b .pre .1 .1 .1) in
-    let i : place x + 2 ^ a .g .bits ≤ length s = place-inside (2 ^ a .g .bits) (length s) x (l1-place _ _ _ g) (w .0) in
-    (e, (omega (arith, e, i), rw (o .is-cluster) (w .1)))
+    (e, (rw e (place-inside (2 ^ a .g .bits) (length s) x (l1-place _ _ _ g) (w .0)), rw (o .is-cluster) (w .1)))
 
 part-entry-bad-end : tie.Need-part-entry-bad-end
 part-entry-bad-end c = omega (arith, inside (c .before) .1 .0, c .power .ensures .0)
 
 entry-bad-requires : tie.Need-entry-bad-requires
 entry-bad-requires c κs =
-    let p = c .before .before in
-    let b = p .before .before .before .before in
-    let a = b .args in
-    let s = now (a .image) in
+    let w = c .before in
+    let p = w .before in
+    let b = p .before .before .before in
+    let C = 2 ^ b .args .g .bits in
+    let s = now (b .args .image) in
+    let at = p .place-of .result in
     let i = inside p in
-    let e = part-of s (p .place-of .result) (c .before .power .result) (2 ^ a .g .bits) (c .before .power .ensures .0) in
-    let l : length (take (2 ^ a .g .bits) (drop (p .place-of .result) s)) ≡ 2 ^ a .g .bits = length-take-le (2 ^ a .g .bits) (drop (p .place-of .result) s) (simp length-drop (omega (arith, i .1 .0))) in
-    (b .pre .0 .high, rw (e, l) (omega (arith, i .1 .1)))
+    (b .pre .0 .high, rw (part-of s at (w .power .result) C (w .power .ensures .0), length-part s at C (i .1 .0)) (omega (arith, i .1 .1)))
 
 returns : tie.Need-returns
 unfolding belowBad
 returns c =
     let w = c .before .before in
     let p = w .before in
-    let b = p .before .before .before .before in
-    let a = b .args in
+    let b = p .before .before .before in
     let o = b .pre .0 in
-    let s = now (a .image) in
-    let e = part-of s (p .place-of .result) (w .power .result) (2 ^ a .g .bits) (w .power .ensures .0) in
-    (rw (e, inside p .0, o .is-cluster, o .is-version) at (c .entry-bad .ensures))
+    let e = part-of (now (b .args .image)) (p .place-of .result) (w .power .result) (2 ^ b .args .g .bits) (w .power .ensures .0) in
+    rw (e, inside p .0, o .is-cluster, o .is-version) at (c .entry-bad .ensures)
 
 pub below-bad-spec : {M : Type 1} → statement M
 below-bad-spec =
     tie.close
     (tie.spec
-    (search needs)
-    (search needs)
-    (search needs)
+    row-at-requires
     (search needs)
     (search needs)
     (search needs)

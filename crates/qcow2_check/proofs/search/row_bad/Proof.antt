@@ -1,13 +1,14 @@
 use borrow.Author.Needs.{needs}
-use Rattle.qcow2_check.specs.Known.{rowBad, rowAt}
+use Rattle.qcow2_check.specs.Known.{rowBad}
 use Rattle.qcow2_check.proofs.search.row_bad.Statement.{statement}
 use Rattle.qcow2_check.proofs.search.row_bad.Tie as tie
 
+row-at-requires : tie.Need-row-at-requires
+row-at-requires c κs = c .before .pre
+
 returns : tie.Need-returns
-unfolding rowBad rowAt
-returns c =
-    let b = c .before .before .before .before in
-    rw (← b .pre .0 .is-cluster, ← b .pre .0 .is-l1, c .good-l1 .ensures, c .before .load64 .ensures)
+unfolding rowBad
+returns c = rw (← c .before .before .before .pre .0 .is-cluster, c .good-l1 .ensures, c .before .row-at .ensures)
 
 pub row-bad-spec : {M : Type 1} → statement M
-row-bad-spec = tie.close (tie.spec (search needs) (search needs) (search needs) (search needs) returns)
+row-bad-spec = tie.close (tie.spec row-at-requires (search needs) returns)

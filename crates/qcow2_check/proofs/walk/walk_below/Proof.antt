@@ -30,8 +30,8 @@ returns c =
     let a = b .args in
     let w = u .before .before .before in
     let e = part-of (now (a .image)) (a .p) (w .power .result) (2 ^ a .g .bits) (w .power .ensures .0) in (
-      t .walk-table .ensures .0 ∙ below-good (now (a .image)) (a .g .version) (2 ^ a .g .bits) (a .p) _ (b .pre .0 .is-version) (b .pre .0 .is-cluster) (b .pre .1 .1) e,
-      (rw (u .bump .ensures, u .before .quotient .ensures .0) at (t .walk-table .ensures .1))
+      t .walk-table .ensures .tested ∙ below-good (now (a .image)) (a .g .version) (2 ^ a .g .bits) (a .p) _ (b .pre .0 .is-version) (b .pre .0 .is-cluster) (b .pre .1 .1) e,
+      (rw (u .bump .ensures, u .before .quotient .ensures .0) at (t .walk-table .ensures .counted))
           ∙ below-refs (now (a .image)) (a .g .version) (2 ^ a .g .bits) (a .p) _ (b .pre .0 .is-version) (b .pre .0 .is-cluster) (b .pre .1 .1) e (now (a .scratch)),
     )
 

@@ -9,14 +9,14 @@ use denote.Ref.{now}
 use Rattle.endian.specs.Big.{entries}
 use Rattle.qcow2_spec.specs.Entries.{goodL2}
 use Rattle.qcow2_spec.specs.References.{l2Refs}
-use Rattle.qcow2_check.specs.Known.{Walking}
+use Rattle.qcow2_check.specs.Known.{Walking, whole, onFrom}
 use Rattle.qcow2_check.proofs.Walks.{walking-first, walking-next}
 use Rattle.qcow2_check.proofs.walk.walk_plain.Statement.{statement}
 use Rattle.qcow2_check.proofs.walk.walk_plain.Tie as tie
 
 abbrev Inv-loop : tie.InvT-loop
 Inv-loop table scratch₀ version bits n per j₀ scratch j =
-    (j ≤ per) × (length scratch ≡ length scratch₀) × Walking (l2Refs version (2 ^ bits) n) (goodL2 version (2 ^ bits) n) (entries per table) scratch₀ (entries (per - j) (drop (8 * j) table)) scratch true
+    (j ≤ per) × (length scratch ≡ length scratch₀) × Walking (l2Refs version (2 ^ bits) n) (goodL2 version (2 ^ bits) n) (whole table) scratch₀ (onFrom j table) scratch true
 
 abbrev μ-loop : tie.MeasureT-loop
 μ-loop table scratch₀ version bits n per j₀ scratch j = per - j

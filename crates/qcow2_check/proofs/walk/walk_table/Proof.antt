@@ -6,14 +6,14 @@ use denote.Ref.{now}
 use Rattle.endian.specs.Big.{entries}
 use Rattle.qcow2_spec.specs.Entries.{goodL2}
 use Rattle.qcow2_spec.specs.References.{l2Refs}
-use Rattle.qcow2_check.specs.Known.{Walking}
+use Rattle.qcow2_check.specs.Known.{Walking, onFrom}
 use Rattle.qcow2_check.proofs.Walks.{walking-first, walking-next, walking-last}
 use Rattle.qcow2_check.proofs.walk.walk_table.Statement.{statement}
 use Rattle.qcow2_check.proofs.walk.walk_table.Tie as tie
 
 abbrev Inv-loop : tie.InvT-loop
 Inv-loop table scratch₀ version bits n per good₀ j₀ scratch good j =
-    (j ≤ per) × (length scratch ≡ length scratch₀) × Walking (l2Refs version (2 ^ bits) n) (goodL2 version (2 ^ bits) n) (entries (per - j₀) (drop (8 * j₀) table)) scratch₀ (entries (per - j) (drop (8 * j) table)) scratch good
+    (j ≤ per) × (length scratch ≡ length scratch₀) × Walking (l2Refs version (2 ^ bits) n) (goodL2 version (2 ^ bits) n) (onFrom j₀ table) scratch₀ (onFrom j table) scratch good
 
 abbrev μ-loop : tie.MeasureT-loop
 μ-loop table scratch₀ version bits n per good₀ j₀ scratch good j = per - j
@@ -42,7 +42,7 @@ returns c =
     let w = t .before .before .before .walk-plain .ensures .1 in
     let T = now (t .before .before .before .before .before .before .before .args .table) in
     let g = walking-last (length T / 8) (t .loop .j) T (t .loop .inv .2) (c .loop-test .left) in
-    (g .0 ∙ w .tested, g .1 ∙ w .counted)
+    record { tested = g .tested ∙ w .tested; counted = g .counted ∙ w .counted }
 
 pub walk-table-spec : {M : Type 1} → statement M
 walk-table-spec =

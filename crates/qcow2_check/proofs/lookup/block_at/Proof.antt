@@ -1,7 +1,7 @@
 use borrow.Author.Needs.{needs}
 use Rattle.qcow2_spec.specs.Header.{blockAt}
-use Rattle.qcow2_check.proofs.blocks.block_at.Statement.{statement}
-use Rattle.qcow2_check.proofs.blocks.block_at.Tie as tie
+use Rattle.qcow2_check.proofs.lookup.block_at.Statement.{statement}
+use Rattle.qcow2_check.proofs.lookup.block_at.Tie as tie
 
 returns : tie.Need-returns
 unfolding blockAt

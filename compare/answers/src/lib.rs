@@ -1,0 +1,105 @@
+//! The answers of the image calls, and the calls as a trait, so that two
+//! implementations can be fed the same requests.
+#![forbid(unsafe_code)]
+
+/// What stands behind one guest offset.
+#[derive(Clone, Copy, Debug, PartialEq, Eq)]
+pub enum Found {
+    Host(u64),
+    Zeros,
+    Absent,
+    Refused(u32),
+}
+
+/// How a storing call ended, with the units spent.
+#[derive(Clone, Copy, Debug, PartialEq, Eq)]
+pub enum Outcome {
+    Finished(u64),
+    Stopped(u64),
+    Refused(u32),
+}
+
+/// What the check says of an image.
+#[derive(Clone, Copy, Debug, PartialEq, Eq)]
+pub enum Verdict {
+    Sound,
+    /// Number of clusters whose count is above their references.
+    Leaks(u64),
+    /// L1 index of the first bad entry.
+    BadL1(u64),
+    /// L1 and L2 index of the first bad entry.
+    BadL2(u64, u64),
+    /// Lowest cluster with two references or more.
+    Shared(u64),
+    /// Lowest cluster whose count is below its references.
+    Short(u64),
+    Refused(u32),
+}
+
+impl Verdict {
+    /// Sound or leaking: neither damaged nor refused.
+    pub fn is_usable(self) -> bool {
+        matches!(self, Verdict::Sound | Verdict::Leaks(_))
+    }
+}
+
+/// The eight calls of one implementation.
+pub trait Calls {
+    fn name(&self) -> &'static str;
+    fn translate(&self, image: &[u8], offset: u64) -> Found;
+    fn read(&self, image: &[u8], offset: u64, out: &mut [u8]) -> Result<(), u32>;
+    fn lookup<'a>(&self, image: &'a [u8], offset: u64) -> &'a [u8];
+    fn write(&self, image: &mut [u8], offset: u64, data: &[u8], allowance: u64) -> Outcome;
+    fn discard(&self, image: &mut [u8], cluster: u64, allowance: u64) -> Outcome;
+    fn repair(&self, image: &mut [u8], scratch: &mut [u8], allowance: u64) -> Outcome;
+    fn check(&self, image: &[u8], scratch: &mut [u8]) -> Verdict;
+    fn difference(&self, stored: u16, figure: u8) -> i32;
+}
+
+/// Implements [`Calls`] for a unit struct by the free functions of the crate
+/// that invokes it.
+#[macro_export]
+macro_rules! calls_by_functions {
+    ($side:ident, $name:literal) => {
+        impl $crate::Calls for $side {
+            fn name(&self) -> &'static str {
+                $name
+            }
+            fn translate(&self, image: &[u8], offset: u64) -> $crate::Found {
+                translate(image, offset)
+            }
+            fn read(&self, image: &[u8], offset: u64, out: &mut [u8]) -> Result<(), u32> {
+                read(image, offset, out)
+            }
+            fn lookup<'a>(&self, image: &'a [u8], offset: u64) -> &'a [u8] {
+                lookup(image, offset)
+            }
+            fn write(
+                &self,
+                image: &mut [u8],
+                offset: u64,
+                data: &[u8],
+                allowance: u64,
+            ) -> $crate::Outcome {
+                write(image, offset, data, allowance)
+            }
+            fn discard(&self, image: &mut [u8], cluster: u64, allowance: u64) -> $crate::Outcome {
+                discard(image, cluster, allowance)
+            }
+            fn repair(
+                &self,
+                image: &mut [u8],
+                scratch: &mut [u8],
+                allowance: u64,
+            ) -> $crate::Outcome {
+                repair(image, scratch, allowance)
+            }
+            fn check(&self, image: &[u8], scratch: &mut [u8]) -> $crate::Verdict {
+                check(image, scratch)
+            }
+            fn difference(&self, stored: u16, figure: u8) -> i32 {
+                difference(stored, figure)
+            }
+        }
+    };
+}

@@ -1,0 +1,52 @@
+//! The C interface of `libqcow2_c.a`. Each call answers 0 for done, 1 to 999
+//! for a refusal, or one of the codes below; nothing is allocated and nothing
+//! global is touched.
+
+pub const STOPPED: u32 = 1001;
+pub const ZEROS: u32 = 1002;
+pub const ABSENT: u32 = 1003;
+pub const LEAKS: u32 = 1004;
+pub const BAD_L1: u32 = 1005;
+pub const BAD_L2: u32 = 1006;
+pub const SHARED: u32 = 1007;
+pub const SHORT: u32 = 1008;
+
+extern "C" {
+    pub fn qcow2_translate(image: *const u8, n: usize, offset: u64, host: *mut u64) -> u32;
+    pub fn qcow2_read(image: *const u8, n: usize, offset: u64, out: *mut u8, out_len: usize)
+        -> u32;
+    pub fn qcow2_lookup(image: *const u8, n: usize, offset: u64) -> usize;
+    pub fn qcow2_write(
+        image: *mut u8,
+        n: usize,
+        offset: u64,
+        data: *const u8,
+        len: usize,
+        allowance: u64,
+        units: *mut u64,
+    ) -> u32;
+    pub fn qcow2_discard(
+        image: *mut u8,
+        n: usize,
+        cluster: u64,
+        allowance: u64,
+        units: *mut u64,
+    ) -> u32;
+    pub fn qcow2_repair(
+        image: *mut u8,
+        n: usize,
+        scratch: *mut u8,
+        m: usize,
+        allowance: u64,
+        units: *mut u64,
+    ) -> u32;
+    pub fn qcow2_check(
+        image: *const u8,
+        n: usize,
+        scratch: *mut u8,
+        m: usize,
+        first: *mut u64,
+        second: *mut u64,
+    ) -> u32;
+    pub fn qcow2_difference(stored: u16, figure: u8) -> i32;
+}

@@ -1,0 +1,135 @@
+//! Safe calls to the proved core: slices in, enums out. The only crate of this
+//! workspace with `unsafe`.
+//!
+//! What every `unsafe` block below relies on: a slice is lent as its pointer
+//! and its length for the time of one call, shared slices are only read, and
+//! the out values are locals.
+
+mod ffi;
+
+pub use answers::{Found, Outcome, Verdict};
+
+/// The proved core as an implementation of [`answers::Calls`].
+pub struct Core;
+
+answers::calls_by_functions!(Core, "core");
+
+/// What stands behind `offset`.
+pub fn translate(image: &[u8], offset: u64) -> Found {
+    let mut host = 0;
+    // SAFETY: see the head of this file.
+    let code = unsafe { ffi::qcow2_translate(lend(image), image.len(), offset, &mut host) };
+    match code {
+        0 => Found::Host(host),
+        ffi::ZEROS => Found::Zeros,
+        ffi::ABSENT => Found::Absent,
+        number => Found::Refused(number),
+    }
+}
+
+/// Fills `out` with the guest bytes from `offset` on, or refuses and leaves it.
+pub fn read(image: &[u8], offset: u64, out: &mut [u8]) -> Result<(), u32> {
+    let (mut pad, len) = (0, out.len());
+    let out = lend_mut(out, &mut pad);
+    // SAFETY: see the head of this file.
+    match unsafe { ffi::qcow2_read(lend(image), image.len(), offset, out, len) } {
+        0 => Ok(()),
+        number => Err(number),
+    }
+}
+
+/// The guest bytes from `offset` to the end of its cluster or of the disk, as
+/// a part of the image; empty where translation gives no host offset.
+pub fn lookup(image: &[u8], offset: u64) -> &[u8] {
+    // SAFETY: see the head of this file.
+    let len = unsafe { ffi::qcow2_lookup(lend(image), image.len(), offset) };
+    if len == 0 {
+        return &[];
+    }
+    match translate(image, offset) {
+        Found::Host(host) => &image[host as usize..][..len],
+        other => panic!("lookup answered {len} bytes where translation answered {other:?}"),
+    }
+}
+
+/// Writes `data` at `offset`, cut after `allowance` units.
+pub fn write(image: &mut [u8], offset: u64, data: &[u8], allowance: u64) -> Outcome {
+    let (mut pad, mut units, n) = (0, 0, image.len());
+    let image = lend_mut(image, &mut pad);
+    // SAFETY: see the head of this file.
+    let code = unsafe {
+        ffi::qcow2_write(image, n, offset, lend(data), data.len(), allowance, &mut units)
+    };
+    outcome(code, units)
+}
+
+/// Discards one guest cluster, cut after `allowance` units.
+pub fn discard(image: &mut [u8], cluster: u64, allowance: u64) -> Outcome {
+    let (mut pad, mut units, n) = (0, 0, image.len());
+    let image = lend_mut(image, &mut pad);
+    // SAFETY: see the head of this file.
+    let code = unsafe { ffi::qcow2_discard(image, n, cluster, allowance, &mut units) };
+    outcome(code, units)
+}
+
+/// Sets the counts of a leaking image to its references, cut after `allowance`
+/// units; `scratch` ends as the check leaves it.
+pub fn repair(image: &mut [u8], scratch: &mut [u8], allowance: u64) -> Outcome {
+    let (mut pad, mut scratch_pad, mut units) = (0, 0, 0);
+    let (n, m) = (image.len(), scratch.len());
+    let image = lend_mut(image, &mut pad);
+    let scratch = lend_mut(scratch, &mut scratch_pad);
+    // SAFETY: see the head of this file.
+    let code = unsafe { ffi::qcow2_repair(image, n, scratch, m, allowance, &mut units) };
+    outcome(code, units)
+}
+
+/// Counts the references into `scratch` and judges the stored counts by them.
+pub fn check(image: &[u8], scratch: &mut [u8]) -> Verdict {
+    let (mut pad, mut first, mut second, m) = (0, 0, 0, scratch.len());
+    let scratch = lend_mut(scratch, &mut pad);
+    // SAFETY: see the head of this file.
+    let code =
+        unsafe { ffi::qcow2_check(lend(image), image.len(), scratch, m, &mut first, &mut second) };
+    match code {
+        0 => Verdict::Sound,
+        ffi::LEAKS => Verdict::Leaks(first),
+        ffi::BAD_L1 => Verdict::BadL1(first),
+        ffi::BAD_L2 => Verdict::BadL2(first, second),
+        ffi::SHARED => Verdict::Shared(first),
+        ffi::SHORT => Verdict::Short(first),
+        number => Verdict::Refused(number),
+    }
+}
+
+/// A cluster's stored count less the scratch's figure, with its sign.
+pub fn difference(stored: u16, figure: u8) -> i32 {
+    // SAFETY: takes and gives plain numbers.
+    unsafe { ffi::qcow2_difference(stored, figure) }
+}
+
+fn outcome(code: u32, units: u64) -> Outcome {
+    match code {
+        0 => Outcome::Finished(units),
+        ffi::STOPPED => Outcome::Stopped(units),
+        number => Outcome::Refused(number),
+    }
+}
+
+/// A pointer to the slice; for an empty one to a real byte, never null.
+fn lend(slice: &[u8]) -> *const u8 {
+    static PAD: u8 = 0;
+    if slice.is_empty() {
+        &PAD
+    } else {
+        slice.as_ptr()
+    }
+}
+
+fn lend_mut(slice: &mut [u8], pad: &mut u8) -> *mut u8 {
+    if slice.is_empty() {
+        pad
+    } else {
+        slice.as_mut_ptr()
+    }
+}

@@ -1,0 +1,218 @@
+//! Ways to make an image leak, or to damage it so that its header is still
+//! accepted.
+
+use crate::image::{Made, USED};
+use crate::rng::Rng;
+
+pub type Damage = fn(&mut Made, &mut Rng);
+
+/// Every kind; the first two only make leaks or use up room.
+pub const ALL: [Damage; 14] = [
+    leak,
+    fill_up,
+    short,
+    free_structure,
+    bad_l1,
+    bad_l2,
+    random_entry,
+    alias_l1,
+    alias_l2,
+    move_l1,
+    alias_block,
+    entries_in_block,
+    table_in_block,
+    random_bytes,
+];
+
+/// Raises counts, of clusters with and without a reference.
+pub fn leak(made: &mut Made, rng: &mut Rng) {
+    for _ in 0..1 + rng.below(4) {
+        let cluster = rng.index(made.clusters());
+        let more = rng.pick(&[1, 1, 2, 0x100, u16::MAX]);
+        made.set_count(cluster, made.count(cluster).saturating_add(more));
+    }
+}
+
+/// Leaves none, one or two clusters with count 0.
+pub fn fill_up(made: &mut Made, rng: &mut Rng) {
+    let keep = rng.index(3);
+    let free: Vec<usize> = (0..made.clusters()).filter(|&k| made.count(k) == 0).collect();
+    for &cluster in free.iter().rev().skip(keep) {
+        made.set_count(cluster, 1);
+    }
+}
+
+/// Sets the count of one cluster to 0.
+pub fn short(made: &mut Made, rng: &mut Rng) {
+    let cluster = any_cluster(made, rng);
+    made.set_count(cluster, 0);
+}
+
+/// Sets the counts of header, blocks, refcount table or L1 table to 0.
+pub fn free_structure(made: &mut Made, rng: &mut Rng) {
+    for place in structures(made) {
+        if rng.once_in(2) && place < made.bytes.len() {
+            made.set_count(place >> made.cluster_bits, 0);
+        }
+    }
+}
+
+pub fn bad_l1(made: &mut Made, rng: &mut Rng) {
+    if let Some(at) = any_l1(made, rng) {
+        let entry = bad_entry(made, rng, false);
+        made.put64(at, entry);
+    }
+}
+
+pub fn bad_l2(made: &mut Made, rng: &mut Rng) {
+    if let Some(at) = any_l2(made, rng) {
+        let entry = bad_entry(made, rng, true);
+        made.put64(at, entry);
+    }
+}
+
+/// An entry of random bits, good or bad.
+pub fn random_entry(made: &mut Made, rng: &mut Rng) {
+    let at = if rng.once_in(2) { any_l1(made, rng) } else { any_l2(made, rng) };
+    if let Some(at) = at {
+        let entry = rng.number() & rng.number() & rng.number();
+        made.put64(at, entry);
+    }
+}
+
+/// An L1 entry that names any cluster as its L2 table.
+pub fn alias_l1(made: &mut Made, rng: &mut Rng) {
+    if let Some(at) = any_l1(made, rng) {
+        let place = any_cluster(made, rng) << made.cluster_bits;
+        made.put64(at, if place == 0 { 0 } else { USED | place as u64 });
+    }
+}
+
+/// An L2 entry that names any cluster.
+pub fn alias_l2(made: &mut Made, rng: &mut Rng) {
+    if let Some(at) = any_l2(made, rng) {
+        let place = any_cluster(made, rng) << made.cluster_bits;
+        let mark = u64::from(made.version == 3 && rng.once_in(3));
+        made.put64(at, if place == 0 { mark } else { USED | place as u64 | mark });
+    }
+}
+
+/// The L1 table on top of anything that has room for it.
+pub fn move_l1(made: &mut Made, rng: &mut Rng) {
+    let place = any_cluster(made, rng) << made.cluster_bits;
+    if place + 8 * made.l1_size <= made.bytes.len() {
+        made.put64(40, place as u64);
+    }
+}
+
+/// A refcount block on top of any cluster but the first.
+pub fn alias_block(made: &mut Made, rng: &mut Rng) {
+    let place = any_cluster(made, rng) << made.cluster_bits;
+    if place != 0 {
+        let index = rng.index(made.blocks.len());
+        made.put64(made.table_at + 8 * index, place as u64);
+    }
+}
+
+/// Good entries inside a block, which serves as L2 table too.
+pub fn entries_in_block(made: &mut Made, rng: &mut Rng) {
+    let Some(l1) = any_l1(made, rng) else {
+        return;
+    };
+    let block = rng.pick(&made.blocks);
+    made.put64(l1, USED | block as u64);
+    for _ in 0..1 + rng.below(4) {
+        let at = block + 8 * rng.index(made.per_table().min(made.clusters() / 4 + 1));
+        let place = any_cluster(made, rng) << made.cluster_bits;
+        made.put64(at, if place == 0 { 0 } else { USED | place as u64 });
+    }
+}
+
+/// A block that is the refcount table as well: storing counts changes it.
+pub fn table_in_block(made: &mut Made, rng: &mut Rng) {
+    let place = rng.pick(&made.blocks);
+    if 8 * made.blocks.len() > made.cluster() {
+        return;
+    }
+    let cluster = made.cluster();
+    made.bytes[place..place + cluster].fill(0);
+    for (index, block) in made.blocks.clone().into_iter().enumerate() {
+        made.put64(place + 8 * index, block as u64);
+    }
+    made.put64(48, place as u64);
+    made.put32(56, 1);
+}
+
+/// Random bytes anywhere.
+pub fn random_bytes(made: &mut Made, rng: &mut Rng) {
+    for _ in 0..1 + rng.below(8) {
+        let cluster = any_cluster(made, rng) << made.cluster_bits;
+        let at = cluster + rng.index(made.cluster());
+        made.bytes[at] = rng.number() as u8;
+    }
+}
+
+/// A bad entry: each rule broken in turn.
+pub fn bad_entry(made: &Made, rng: &mut Rng, l2: bool) -> u64 {
+    let n = made.bytes.len() as u64;
+    let place = made.cluster() as u64 * (1 + rng.below((made.clusters() as u64 - 1).max(1)));
+    let good = USED | if place < n { place } else { 0 };
+    let unaligned = 1 << (9 + rng.below(u64::from(made.cluster_bits - 9).max(1)));
+    let low = rng.below(8);
+    match rng.below(if l2 { 9 } else { 6 }) {
+        0 => good | 1 << (56 + rng.below(if l2 { 6 } else { 7 })),
+        1 => good | if l2 { 2 << low } else { 1 << rng.pick(&[low, 8]) },
+        2 => good & !USED | if place < n { 0 } else { USED },
+        3 => USED,
+        4 if made.cluster_bits > 9 => good | unaligned,
+        4 => USED | n,
+        5 => USED | rng.pick(&[n, n + made.cluster() as u64, 1 << 32, 1 << 55]),
+        6 => 1 << 62 | rng.pick(&[0, good, 0x1FE, USED, u64::MAX]),
+        7 if made.version == 2 => good | 1,
+        7 => USED | 1,
+        _ if made.version == 2 => 1,
+        _ => 2 << low,
+    }
+}
+
+/// Places of header, refcount table, L1 table, blocks and L2 tables.
+fn structures(made: &Made) -> Vec<usize> {
+    let mut places = vec![0, made.table_at, made.l1_at];
+    places.extend(&made.blocks);
+    places.extend(made.tables.iter().map(|&(_, place)| place));
+    places
+}
+
+/// A cluster, most often one with a structure.
+fn any_cluster(made: &Made, rng: &mut Rng) -> usize {
+    let place = rng.pick(&structures(made));
+    if rng.once_in(3) || place >= made.bytes.len() {
+        return rng.index(made.clusters());
+    }
+    place >> made.cluster_bits
+}
+
+/// The place of an L1 entry, most often one with a table.
+fn any_l1(made: &Made, rng: &mut Rng) -> Option<usize> {
+    if made.l1_size == 0 {
+        return None;
+    }
+    let random = rng.index(made.l1_size);
+    let index = match made.tables.is_empty() || rng.once_in(2) {
+        true => rng.pick(&[0, made.l1_size - 1, random]),
+        false => rng.pick(&made.tables).0,
+    };
+    Some(made.l1_entry(index))
+}
+
+/// The place of an L2 entry, most often one that is set.
+fn any_l2(made: &Made, rng: &mut Rng) -> Option<usize> {
+    if made.tables.is_empty() {
+        return None;
+    }
+    if made.entries.is_empty() || rng.once_in(2) {
+        let (_, table) = rng.pick(&made.tables);
+        return Some(table + 8 * rng.index(made.per_table()));
+    }
+    Some(rng.pick(&made.entries))
+}

@@ -1,0 +1,185 @@
+//! Drivers of random runs.
+
+use answers::{Calls, Outcome};
+use plain::plain_disk::{Call, Series};
+
+use crate::breaks::break_header;
+use crate::damage;
+use crate::image::Made;
+use crate::pair::Pair;
+use crate::plan::Plan;
+use crate::requests::{Request, Requests};
+use crate::rng::Rng;
+
+/// A sound image with tables and entries.
+pub fn sound(rng: &mut Rng) -> Made {
+    let mut made = Plan::random(rng).build(rng);
+    made.populate(rng);
+    made
+}
+
+/// Sound or leaking, at times with no or little room.
+pub fn usable(rng: &mut Rng) -> Made {
+    let mut made = sound(rng);
+    if rng.once_in(3) {
+        damage::leak(&mut made, rng);
+    }
+    if rng.once_in(6) {
+        damage::fill_up(&mut made, rng);
+    }
+    made
+}
+
+/// An image of any kind: usable, damaged, refused or random.
+pub fn any_image(rng: &mut Rng) -> Made {
+    let mut made = usable(rng);
+    match rng.below(16) {
+        0..=4 => {}
+        5 => {
+            let highest = 1 + rng.below(10) as u32;
+            let lowest = 1 + rng.below(u64::from(highest)) as u32;
+            break_header(&mut made, highest, rng);
+            break_header(&mut made, lowest, rng);
+        }
+        6 => {
+            let at = rng.index(104);
+            made.bytes[at] = rng.number() as u8;
+        }
+        7 if rng.once_in(8) => rng.fill(&mut made.bytes),
+        _ => {
+            for _ in 0..1 + rng.below(4) {
+                rng.pick(&damage::ALL)(&mut made, rng);
+            }
+        }
+    }
+    made
+}
+
+/// Feeds both sides requests for random images until `calls` were made.
+pub fn compare(pair: &mut Pair, rng: &mut Rng, calls: u64) {
+    while pair.calls < calls {
+        let made = any_image(rng);
+        pair.load(&made.bytes);
+        let mut requests = Requests::new(&made);
+        for _ in 0..8 + rng.below(24) {
+            pair.run(&requests.any(rng));
+            if rng.once_in(32) {
+                pair.load(&made.bytes);
+            }
+        }
+    }
+}
+
+/// The request with another allowance.
+pub fn with_allowance(request: &Request, allowance: u64) -> Request {
+    let mut request = request.clone();
+    match &mut request {
+        Request::Write { allowance: old, .. }
+        | Request::Discard { allowance: old, .. }
+        | Request::Repair { allowance: old, .. } => *old = allowance,
+        _ => {}
+    }
+    request
+}
+
+/// Where to cut a list: everywhere if it is short, else at the edges of its
+/// runs and at random places.
+pub fn cuts(units: u64, cluster: u64, rng: &mut Rng) -> Vec<u64> {
+    if units <= 40 || units <= 1100 && rng.once_in(16) {
+        return (0..=units + 1).collect();
+    }
+    let edges = [0, cluster, 2 * cluster, units];
+    let mut cuts: Vec<u64> = (0..5).map(|_| rng.below(units)).collect();
+    for edge in edges {
+        cuts.extend((edge.saturating_sub(3)..=edge + 4).filter(|&cut| cut <= units + 1));
+    }
+    cuts.sort_unstable();
+    cuts.dedup();
+    cuts
+}
+
+/// Cuts one request at many units, each time from the same image.
+pub fn compare_cuts(pair: &mut Pair, rng: &mut Rng, calls: u64) {
+    while pair.calls < calls {
+        let made = any_image(rng);
+        let mut requests = Requests::new(&made);
+        for _ in 0..4 {
+            let request = requests.storing(rng);
+            pair.load(&made.bytes);
+            let whole = pair.run(&with_allowance(&request, u64::MAX));
+            let Some(Outcome::Finished(units)) = whole else {
+                continue;
+            };
+            for cut in cuts(units, made.cluster() as u64, rng) {
+                pair.load(&made.bytes);
+                pair.run(&with_allowance(&request, cut));
+            }
+        }
+    }
+}
+
+/// A request as a call of a series, with its allowance.
+fn call(request: &Request) -> (Call<'_>, u64) {
+    match *request {
+        Request::Write { offset, ref data, allowance } => (Call::Write { offset, data }, allowance),
+        Request::Discard { cluster, allowance } => (Call::Discard { cluster }, allowance),
+        Request::Repair { scratch, allowance } => (Call::Repair { scratch }, allowance),
+        _ => unreachable!("not a storing request"),
+    }
+}
+
+fn step(series: &mut Series, image: &mut [u8], request: &Request) -> Outcome {
+    let (asked, allowance) = call(request);
+    series.step(image, asked, allowance).unwrap_or_else(|fault| panic!("{fault}: {request:?}"))
+}
+
+/// Random series of one side, followed by the plain disk, until `calls` calls
+/// were made; how many were finished, stopped and refused.
+pub fn series(side: &dyn Calls, rng: &mut Rng, calls: u64) -> [u64; 3] {
+    let mut ended = [0; 3];
+    while ended.iter().sum::<u64>() < calls {
+        let made = usable(rng);
+        let mut image = made.bytes.clone();
+        let mut requests = Requests::new(&made);
+        let mut series = Series::start(side, &image).expect("a usable image");
+        for _ in 0..20 + rng.below(60) {
+            let request = requests.storing(rng);
+            match step(&mut series, &mut image, &request) {
+                Outcome::Finished(_) => ended[0] += 1,
+                Outcome::Stopped(_) => ended[1] += 1,
+                Outcome::Refused(_) => ended[2] += 1,
+            }
+        }
+    }
+    ended
+}
+
+/// Cuts requests at many units; after each cut the request once more, a repair
+/// or a discard. Returns the calls made.
+pub fn series_cuts(side: &dyn Calls, rng: &mut Rng, calls: u64) -> u64 {
+    let mut made_calls = 0;
+    while made_calls < calls {
+        let made = usable(rng);
+        let start = Series::start(side, &made.bytes).expect("a usable image");
+        let mut requests = Requests::new(&made);
+        for _ in 0..3 {
+            let request = requests.storing(rng);
+            let (mut series, mut image) = (start.clone(), made.bytes.clone());
+            let whole = step(&mut series, &mut image, &with_allowance(&request, u64::MAX));
+            made_calls += 1;
+            let Outcome::Finished(units) = whole else {
+                continue;
+            };
+            for cut in cuts(units, made.cluster() as u64, rng) {
+                let (mut series, mut image) = (start.clone(), made.bytes.clone());
+                step(&mut series, &mut image, &with_allowance(&request, cut));
+                let repair = Request::Repair { scratch: made.clusters(), allowance: u64::MAX };
+                let discard = requests.storing(rng);
+                let next = [&request, &repair, &discard][rng.index(3)].clone();
+                step(&mut series, &mut image, &with_allowance(&next, u64::MAX));
+                made_calls += 2;
+            }
+        }
+    }
+    made_calls
+}

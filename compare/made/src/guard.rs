@@ -1,0 +1,50 @@
+//! A slice lent from the middle of a bigger buffer, whose other bytes must
+//! never change.
+
+/// Odd, so that the lent bytes have no alignment.
+const GUARD: usize = 61;
+
+#[derive(Default)]
+pub struct Guarded {
+    buffer: Vec<u8>,
+}
+
+fn mark(k: usize) -> u8 {
+    (k as u8).wrapping_mul(37) ^ 0xA5
+}
+
+impl Guarded {
+    /// Holds a copy of `bytes`.
+    pub fn set(&mut self, bytes: &[u8]) {
+        self.buffer.resize(bytes.len() + 2 * GUARD, 0);
+        let (head, rest) = self.buffer.split_at_mut(GUARD);
+        let (middle, tail) = rest.split_at_mut(bytes.len());
+        middle.copy_from_slice(bytes);
+        for guard in [head, tail] {
+            guard.iter_mut().enumerate().for_each(|(k, byte)| *byte = mark(k));
+        }
+    }
+
+    pub fn of(bytes: &[u8]) -> Guarded {
+        let mut guarded = Guarded::default();
+        guarded.set(bytes);
+        guarded
+    }
+
+    pub fn lent(&self) -> &[u8] {
+        &self.buffer[GUARD..self.buffer.len() - GUARD]
+    }
+
+    pub fn lent_mut(&mut self) -> &mut [u8] {
+        let end = self.buffer.len() - GUARD;
+        &mut self.buffer[GUARD..end]
+    }
+
+    /// Are the bytes around the lent ones as they were?
+    pub fn intact(&self) -> bool {
+        let tail = self.buffer.len() - GUARD;
+        [&self.buffer[..GUARD], &self.buffer[tail..]]
+            .iter()
+            .all(|guard| guard.iter().enumerate().all(|(k, &byte)| byte == mark(k)))
+    }
+}

@@ -1,0 +1,19 @@
+//! Made and real images, damage, requests, and the drivers that feed them to
+//! one implementation or to two.
+#![forbid(unsafe_code)]
+
+pub mod bench_suite;
+pub mod breaks;
+pub mod damage;
+pub mod drive;
+pub mod edges;
+pub mod full;
+pub mod guard;
+pub mod image;
+pub mod pair;
+pub mod plan;
+pub mod real;
+pub mod real_suite;
+pub mod report;
+pub mod requests;
+pub mod rng;

@@ -1,0 +1,178 @@
+//! Two implementations fed the same requests: every answer and every lent byte
+//! must agree, and no byte around the lent ones may change.
+
+use std::collections::BTreeMap;
+
+use answers::{Calls, Outcome};
+
+use crate::guard::Guarded;
+use crate::requests::Request;
+
+pub struct Pair<'c> {
+    sides: [&'c dyn Calls; 2],
+    images: [Guarded; 2],
+    /// The image before the call.
+    before: Vec<u8>,
+    /// Calls made so far, of each side.
+    pub calls: u64,
+    /// How often each call gave each kind of answer.
+    pub tally: BTreeMap<String, u64>,
+}
+
+impl<'c> Pair<'c> {
+    pub fn new(left: &'c dyn Calls, right: &'c dyn Calls) -> Pair<'c> {
+        Pair {
+            sides: [left, right],
+            images: [Guarded::default(), Guarded::default()],
+            before: Vec::new(),
+            calls: 0,
+            tally: BTreeMap::new(),
+        }
+    }
+
+    /// Lends both sides a copy of `image` from now on.
+    pub fn load(&mut self, image: &[u8]) {
+        self.before.clear();
+        self.before.extend_from_slice(image);
+        self.images.iter_mut().for_each(|side| side.set(image));
+    }
+
+    /// The image as the calls have left it.
+    pub fn image(&self) -> &[u8] {
+        &self.before
+    }
+
+    /// Makes one call of each side and compares; what a storing call answered.
+    pub fn run(&mut self, request: &Request) -> Option<Outcome> {
+        self.calls += 1;
+        match *request {
+            Request::Translate { offset } => {
+                self.answers(request, |side, image| side.translate(image.lent(), offset));
+            }
+            Request::Lookup { offset } => {
+                self.answers(request, |side, image| part(image, side.lookup(image.lent(), offset)));
+            }
+            Request::Read { offset, len } => self.read(request, offset, len),
+            Request::Check { scratch } => {
+                self.with_scratch(request, scratch, |side, image, scratch| {
+                    side.check(image.lent(), scratch)
+                });
+            }
+            _ => return Some(self.store(request)),
+        }
+        same(request, &self.images, Some(&self.before));
+        None
+    }
+
+    /// A storing call: the images agree after it, and a refusal or a cut at 0
+    /// changed nothing.
+    fn store(&mut self, request: &Request) -> Outcome {
+        let outcome = match *request {
+            Request::Repair { scratch, allowance } => {
+                self.with_scratch(request, scratch, |side, image, scratch| {
+                    side.repair(image.lent_mut(), scratch, allowance)
+                })
+            }
+            Request::Discard { cluster, allowance } => self
+                .answers(request, |side, image| side.discard(image.lent_mut(), cluster, allowance)),
+            Request::Write { offset, ref data, allowance } => {
+                let lent = Guarded::of(data);
+                let outcome = self.answers(request, |side, image| {
+                    side.write(image.lent_mut(), offset, lent.lent(), allowance)
+                });
+                assert!(lent.intact() && lent.lent() == data, "data changed: {request:?}");
+                outcome
+            }
+            _ => unreachable!("not a storing request"),
+        };
+        let unchanged = matches!(outcome, Outcome::Refused(_) | Outcome::Stopped(0));
+        same(request, &self.images, unchanged.then_some(&self.before));
+        self.before.copy_from_slice(self.images[0].lent());
+        outcome
+    }
+
+    fn answers<A: PartialEq + std::fmt::Debug>(
+        &mut self,
+        request: &Request,
+        mut call: impl FnMut(&dyn Calls, &mut Guarded) -> A,
+    ) -> A {
+        let left = call(self.sides[0], &mut self.images[0]);
+        let right = call(self.sides[1], &mut self.images[1]);
+        let names = self.sides.map(|side| side.name());
+        assert_eq!(left, right, "{names:?} answer differently: {request:?}");
+        *self.tally.entry(kind(request, &left)).or_default() += 1;
+        left
+    }
+
+    fn read(&mut self, request: &Request, offset: u64, len: usize) {
+        let before = vec![0xC3; len];
+        let out = &mut [Guarded::of(&before), Guarded::of(&before)];
+        let mut lent = out.iter_mut();
+        let answer = self.answers(request, |side, image| {
+            side.read(image.lent(), offset, lent.next().expect("two sides").lent_mut())
+        });
+        same(request, out, answer.is_err().then_some(&before));
+    }
+
+    fn with_scratch<A: PartialEq + std::fmt::Debug>(
+        &mut self,
+        request: &Request,
+        len: usize,
+        mut call: impl FnMut(&dyn Calls, &mut Guarded, &mut [u8]) -> A,
+    ) -> A {
+        let before = vec![0x5A; len];
+        let scratch = &mut [Guarded::of(&before), Guarded::of(&before)];
+        let mut lent = scratch.iter_mut();
+        let answer = self.answers(request, |side, image| {
+            call(side, image, lent.next().expect("two sides").lent_mut())
+        });
+        same(request, scratch, None);
+        answer
+    }
+}
+
+/// Both hold the same bytes, `wanted` if that is given.
+fn same(request: &Request, held: &[Guarded; 2], wanted: Option<&Vec<u8>>) {
+    let [left, right] = held;
+    assert!(left.intact() && right.intact(), "bytes around changed: {request:?}");
+    let wanted = wanted.map_or(left.lent(), Vec::as_slice);
+    for side in held {
+        let differs = || wanted.iter().zip(side.lent()).position(|(a, b)| a != b);
+        assert!(side.lent() == wanted, "bytes differ at {:?}: {request:?}", differs());
+    }
+}
+
+/// The kinds of answers that a long random run has to meet and did not.
+pub fn missing(tally: &BTreeMap<String, u64>) -> Vec<String> {
+    let mut wanted: Vec<String> = Vec::new();
+    let storing = ["Finished", "Stopped"].as_slice();
+    for (call, answers, numbers) in [
+        ("translate", ["Host", "Zeros", "Absent"].as_slice(), [11, 12, 13].as_slice()),
+        ("read", &["Ok"], &[11, 12, 13]),
+        ("write", storing, &[11, 12, 13, 14]),
+        ("discard", storing, &[11, 12, 13, 16]),
+        ("repair", storing, &[15, 17]),
+        ("check", &["Sound", "Leaks", "BadL1", "BadL2", "Shared", "Short"], &[15]),
+    ] {
+        wanted.extend(answers.iter().map(|answer| format!("{call} {answer}")));
+        let numbers = (1..=10).chain(numbers.iter().copied());
+        wanted.extend(numbers.map(|number| format!("{call} Refused({number})")));
+    }
+    wanted.extend(["lookup Some".into(), "lookup None".into()]);
+    wanted.retain(|kind| !tally.contains_key(kind));
+    wanted
+}
+
+/// Name of the call and kind of its answer, with the number of a refusal.
+fn kind(request: &Request, answer: &impl std::fmt::Debug) -> String {
+    let answer = format!("{answer:?}");
+    let refused = answer.starts_with("Refused") || answer.starts_with("Err");
+    let end = if refused { answer.len() } else { answer.find('(').unwrap_or(answer.len()) };
+    format!("{} {}", request.name(), answer[..end].replace("Err", "Refused"))
+}
+
+/// Where the part lies in the image, and its length; None if it is empty.
+fn part(image: &Guarded, part: &[u8]) -> Option<(usize, usize)> {
+    let start = (part.as_ptr() as usize).wrapping_sub(image.lent().as_ptr() as usize);
+    (!part.is_empty()).then_some((start, part.len()))
+}

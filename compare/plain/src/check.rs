@@ -1,0 +1,179 @@
+//! Check and repair: references counted into the scratch, then compared with
+//! the stored counts.
+
+use answers::{Outcome, Verdict};
+
+use crate::entries::Rules;
+use crate::header::{be64, Header};
+
+/// Counts the references into `scratch` and judges the stored counts by them.
+pub fn check(image: &[u8], scratch: &mut [u8]) -> Verdict {
+    match examine(image, scratch) {
+        Ok((_, verdict)) => verdict,
+        Err(number) => Verdict::Refused(number),
+    }
+}
+
+/// Sets the counts of a leaking image to its references, cut after `allowance`
+/// units; `scratch` ends as the check leaves it.
+pub fn repair(image: &mut [u8], scratch: &mut [u8], allowance: u64) -> Outcome {
+    let (header, leaks) = match examine(image, scratch) {
+        Err(number) => return Outcome::Refused(number),
+        Ok((_, Verdict::Sound)) => return Outcome::Finished(0),
+        Ok((header, Verdict::Leaks(leaks))) => (header, leaks),
+        Ok(_) => return Outcome::Refused(17),
+    };
+    store_references(&header, image, scratch, allowance.min(leaks));
+    if leaks <= allowance {
+        Outcome::Finished(leaks)
+    } else {
+        Outcome::Stopped(allowance)
+    }
+}
+
+/// A cluster's stored count less the scratch's figure, with its sign.
+pub fn difference(stored: u16, figure: u8) -> i32 {
+    i32::from(stored) - i32::from(figure)
+}
+
+fn examine(image: &[u8], scratch: &mut [u8]) -> Result<(Header, Verdict), u32> {
+    let header = Header::judge(image)?;
+    let figures = scratch.get_mut(..header.clusters).ok_or(15u32)?;
+    figures.fill(0);
+    let mut count = Count { header: &header, image, figures, shared: false, bad: None };
+    count.fixed_structures();
+    count.tables();
+    let (shared, bad) = (count.shared, count.bad);
+    let verdict = match bad {
+        Some(verdict) => verdict,
+        None if shared => Verdict::Shared(lowest(figures, |&figure| figure > 1)),
+        None => compare(&header, image, figures),
+    };
+    Ok((header, verdict))
+}
+
+fn lowest(figures: &[u8], wanted: impl Fn(&u8) -> bool) -> u64 {
+    figures.iter().position(wanted).expect("a cluster is known to be there") as u64
+}
+
+/// The counting of references.
+struct Count<'a> {
+    header: &'a Header,
+    image: &'a [u8],
+    figures: &'a mut [u8],
+    shared: bool,
+    /// The first bad entry.
+    bad: Option<Verdict>,
+}
+
+impl Count<'_> {
+    fn refer(&mut self, place: usize) {
+        let before = refer(&mut self.figures[place >> self.header.cluster_bits]);
+        self.shared |= before != 0;
+    }
+
+    /// Header cluster, refcount table, L1 table and refcount blocks.
+    fn fixed_structures(&mut self) {
+        let header = self.header;
+        let cluster = header.cluster();
+        self.refer(0);
+        for k in 0..header.table_clusters {
+            self.refer(header.table_at + k * cluster);
+        }
+        for at in (header.l1_at..header.l1_at + 8 * header.l1_size).step_by(cluster) {
+            self.refer(at);
+        }
+        for index in 0..header.blocks {
+            self.refer(header.block_at(self.image, index));
+        }
+    }
+
+    /// L1 entries and the L2 entries below them.
+    fn tables(&mut self) {
+        let rules = Rules::of(self.header);
+        for l1_index in 0..self.header.l1_size {
+            match rules.l1(be64(self.image, self.header.l1_at + 8 * l1_index)) {
+                Some(0) => {}
+                Some(table) => {
+                    self.refer(table);
+                    self.table(&rules, l1_index as u64, table);
+                }
+                None => _ = self.bad.get_or_insert(Verdict::BadL1(l1_index as u64)),
+            }
+        }
+    }
+
+    fn table(&mut self, rules: &Rules, l1_index: u64, table: usize) {
+        let entries = self.image[table..][..self.header.cluster()].as_chunks().0;
+        let figures = &mut *self.figures;
+        let mut seen = 0;
+        for (l2_index, entry) in entries.iter().enumerate() {
+            match rules.l2_cluster(u64::from_be_bytes(*entry)) {
+                Some(0) => {}
+                Some(cluster) => seen |= refer(&mut figures[cluster]),
+                None => {
+                    self.bad.get_or_insert(Verdict::BadL2(l1_index, l2_index as u64));
+                }
+            }
+        }
+        self.shared |= seen != 0;
+    }
+}
+
+/// One reference more; the figure before.
+#[inline]
+fn refer(figure: &mut u8) -> u8 {
+    let before = *figure;
+    *figure = 1 + u8::from(before != 0);
+    before
+}
+
+/// The verdict where no entry is bad and no figure above 1.
+fn compare(header: &Header, image: &[u8], figures: &[u8]) -> Verdict {
+    let mut leaks = 0;
+    for (index, figures) in figures.chunks(header.per_block()).enumerate() {
+        let at = header.block_at(image, index);
+        let counts = image[at..at + header.cluster()].as_chunks().0;
+        let (mut above, mut below) = (0u16, 0u16);
+        for (count, &figure) in counts.iter().zip(figures) {
+            let count = u16::from_be_bytes(*count);
+            above += u16::from(count > u16::from(figure));
+            below += u16::from(count < u16::from(figure));
+        }
+        if below != 0 {
+            let short =
+                |(count, &figure): (&[u8; 2], &u8)| u16::from_be_bytes(*count) < u16::from(figure);
+            let found = counts.iter().zip(figures).position(short);
+            let first = index * header.per_block();
+            return Verdict::Short((first + found.expect("counted above")) as u64);
+        }
+        leaks += u64::from(above);
+    }
+    if leaks == 0 {
+        Verdict::Sound
+    } else {
+        Verdict::Leaks(leaks)
+    }
+}
+
+/// Sets the first `units` counts that differ from the figures to them. The
+/// image is not damaged: no block lies on another structure, so no store
+/// changes what is read later on.
+fn store_references(header: &Header, image: &mut [u8], figures: &[u8], units: u64) {
+    let figures = &figures[..header.clusters];
+    let mut left = units;
+    for (index, figures) in figures.chunks(header.per_block()).enumerate() {
+        let at = header.block_at(image, index);
+        let counts = image[at..at + header.cluster()].as_chunks_mut().0;
+        for (count, &figure) in counts.iter_mut().zip(figures) {
+            let wanted = u16::from(figure).to_be_bytes();
+            if *count != wanted {
+                if left == 0 {
+                    return;
+                }
+                *count = wanted;
+                left -= 1;
+            }
+        }
+    }
+}

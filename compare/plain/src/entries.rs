@@ -1,0 +1,107 @@
+//! L1 and L2 entries, and the way from a guest cluster to its entry.
+
+use crate::header::{be64, Header};
+
+/// Bit 63: set in every entry with a place.
+pub(crate) const USED: u64 = 1 << 63;
+const COMPRESSED: u64 = 1 << 62;
+
+/// What the rules for entries need to know of an image.
+#[derive(Clone, Copy)]
+pub(crate) struct Rules {
+    cluster_bits: u32,
+    /// Clusters beside cluster 0.
+    others: u64,
+    /// Bit 0 where it may be set in an L2 entry.
+    mark: u64,
+}
+
+/// A good L2 entry; place 0 is none.
+#[derive(Clone, Copy)]
+pub(crate) struct Mapping {
+    pub place: usize,
+    pub zeros: bool,
+}
+
+/// Where the way to a guest cluster ends.
+pub(crate) enum Slot {
+    /// The L1 entry at this place is 0.
+    NoTable { l1_at: usize },
+    /// The L2 entry at this place.
+    Entry { at: usize, mapping: Mapping },
+}
+
+impl Rules {
+    pub fn of(header: &Header) -> Rules {
+        Rules {
+            cluster_bits: header.cluster_bits,
+            others: header.clusters as u64 - 1,
+            mark: u64::from(header.version == 3),
+        }
+    }
+
+    /// The cluster named by a good entry without zero mark, 0 for none; None
+    /// if the entry is bad. With bit 63 turned over and the place rotated down,
+    /// a good entry is the cluster's number, and any wrong bit makes it greater
+    /// than that of every cluster.
+    #[inline]
+    fn cluster(&self, entry: u64) -> Option<usize> {
+        let cluster = (entry ^ USED).rotate_right(self.cluster_bits);
+        if cluster.wrapping_sub(1) < self.others {
+            Some(cluster as usize)
+        } else {
+            (entry == 0).then_some(0)
+        }
+    }
+
+    /// The cluster named by a good L2 entry, 0 for none; None if it is bad or
+    /// compressed.
+    #[inline]
+    pub fn l2_cluster(&self, entry: u64) -> Option<usize> {
+        self.cluster(entry & !self.mark)
+    }
+
+    /// The place of a good L1 entry, 0 for none; None if the entry is bad.
+    #[inline]
+    pub fn l1(&self, entry: u64) -> Option<usize> {
+        Some(self.cluster(entry)? << self.cluster_bits)
+    }
+
+    /// What a good L2 entry says, or the number for a bad one.
+    #[inline]
+    pub fn mapping(&self, entry: u64) -> Result<Mapping, u32> {
+        let number: u32 = if entry & COMPRESSED != 0 { 13 } else { 12 };
+        let cluster = self.l2_cluster(entry).ok_or(number)?;
+        Ok(Mapping { place: cluster << self.cluster_bits, zeros: entry & 1 != 0 })
+    }
+}
+
+impl Mapping {
+    /// Place of the guest bytes, unless they read as zeros.
+    #[inline]
+    pub fn host(&self) -> Option<usize> {
+        (self.place != 0 && !self.zeros).then_some(self.place)
+    }
+}
+
+impl Header {
+    /// Index in the L1 table and in the L2 table.
+    pub fn indices(&self, cluster: u64) -> (usize, usize) {
+        let l2_bits = self.cluster_bits - 3;
+        ((cluster >> l2_bits) as usize, cluster as usize & ((1 << l2_bits) - 1))
+    }
+
+    /// The entry of a guest cluster below the disk's end.
+    pub fn slot(&self, image: &[u8], cluster: u64) -> Result<Slot, u32> {
+        let rules = Rules::of(self);
+        let (l1_index, l2_index) = self.indices(cluster);
+        let l1_at = self.l1_at + 8 * l1_index;
+        let table = rules.l1(be64(image, l1_at)).ok_or(12u32)?;
+        if table == 0 {
+            return Ok(Slot::NoTable { l1_at });
+        }
+        let at = table + 8 * l2_index;
+        let mapping = rules.mapping(be64(image, at))?;
+        Ok(Slot::Entry { at, mapping })
+    }
+}

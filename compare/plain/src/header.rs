@@ -1,0 +1,158 @@
+//! The header, judged afresh by every call: numbers 1 to 10.
+
+const MAGIC: [u8; 4] = [0x51, 0x46, 0x49, 0xFB];
+const MAX_IMAGE: usize = 64 << 20;
+const MAX_DISK: u64 = 1 << 40;
+const MAX_L1: u64 = 4096;
+
+pub(crate) fn be16(image: &[u8], at: usize) -> u16 {
+    u16::from_be_bytes(image[at..at + 2].try_into().unwrap())
+}
+
+pub(crate) fn be32(image: &[u8], at: usize) -> u32 {
+    u32::from_be_bytes(image[at..at + 4].try_into().unwrap())
+}
+
+pub(crate) fn be64(image: &[u8], at: usize) -> u64 {
+    u64::from_be_bytes(image[at..at + 8].try_into().unwrap())
+}
+
+/// A header that was accepted, with every place known to be inside the image.
+pub(crate) struct Header {
+    pub version: u32,
+    pub cluster_bits: u32,
+    pub size: u64,
+    pub l1_size: usize,
+    pub l1_at: usize,
+    pub table_at: usize,
+    pub table_clusters: usize,
+    /// Clusters of the image (N).
+    pub clusters: usize,
+    /// Refcount blocks (B).
+    pub blocks: usize,
+}
+
+impl Header {
+    /// The accepted header, or the lowest number from 1 to 10 that applies.
+    pub fn judge(image: &[u8]) -> Result<Header, u32> {
+        let (version, cluster_bits) = shape(image)?;
+        features(image, version)?;
+        let size = be64(image, 24);
+        let l1_size = u64::from(be32(image, 36));
+        let reach = l1_size << (2 * cluster_bits - 3);
+        if size > MAX_DISK || l1_size > MAX_L1 || reach < size {
+            return Err(8);
+        }
+        let header = tables(image, version, cluster_bits, size, l1_size)?;
+        if header.blocks_are_good(image) {
+            Ok(header)
+        } else {
+            Err(10)
+        }
+    }
+
+    /// Cluster size (C).
+    pub fn cluster(&self) -> usize {
+        1 << self.cluster_bits
+    }
+
+    /// Does the guest range lie inside the disk?
+    pub fn holds(&self, offset: u64, len: usize) -> bool {
+        offset <= self.size && len as u64 <= self.size - offset
+    }
+
+    /// Guest clusters that begin below the disk's end.
+    pub fn guest_clusters(&self) -> u64 {
+        self.size.div_ceil(1 << self.cluster_bits)
+    }
+
+    fn blocks_are_good(&self, image: &[u8]) -> bool {
+        let table = &image[self.table_at..][..self.table_clusters << self.cluster_bits];
+        let (used, rest) = table.split_at(8 * self.blocks);
+        let others = self.clusters as u64 - 1;
+        // Rotated, the place is a cluster number if it is a multiple of the
+        // cluster size, and greater than any such number if it is not.
+        let good = |entry: &[u8; 8]| {
+            let place = u64::from_be_bytes(*entry);
+            place.rotate_right(self.cluster_bits).wrapping_sub(1) < others
+        };
+        used.as_chunks().0.iter().all(good) && all_zero(rest)
+    }
+}
+
+/// Numbers 1 to 5: version and cluster_bits.
+fn shape(image: &[u8]) -> Result<(u32, u32), u32> {
+    let n = image.len();
+    if n < 512 {
+        return Err(1);
+    }
+    if image[..4] != MAGIC {
+        return Err(2);
+    }
+    let version = be32(image, 4);
+    if version != 2 && version != 3 {
+        return Err(3);
+    }
+    let cluster_bits = be32(image, 20);
+    if !(9..=16).contains(&cluster_bits) {
+        return Err(4);
+    }
+    if n & ((1 << cluster_bits) - 1) != 0 || n > MAX_IMAGE {
+        return Err(5);
+    }
+    Ok((version, cluster_bits))
+}
+
+/// Numbers 6 and 7.
+fn features(image: &[u8], version: u32) -> Result<(), u32> {
+    if be64(image, 8) != 0 || be32(image, 32) != 0 || be32(image, 60) != 0 {
+        return Err(6);
+    }
+    if version == 3 {
+        if be32(image, 96) != 4 || be32(image, 100) != 104 {
+            return Err(6);
+        }
+        if be64(image, 72) != 0 {
+            return Err(7);
+        }
+    }
+    Ok(())
+}
+
+/// Number 9: the places of the L1 table and the refcount table.
+fn tables(
+    image: &[u8],
+    version: u32,
+    cluster_bits: u32,
+    size: u64,
+    l1_size: u64,
+) -> Result<Header, u32> {
+    let n = image.len() as u64;
+    let fits = |at: u64, len: u64| at & ((1 << cluster_bits) - 1) == 0 && at <= n && len <= n - at;
+    let l1_at = be64(image, 40);
+    let table_at = be64(image, 48);
+    let table_clusters = u64::from(be32(image, 56));
+    let table_len = table_clusters << cluster_bits;
+    let clusters = n >> cluster_bits;
+    let blocks = clusters.div_ceil(1 << (cluster_bits - 1));
+    if !fits(l1_at, 8 * l1_size) || !fits(table_at, table_len) || table_len / 8 < blocks {
+        return Err(9);
+    }
+    Ok(Header {
+        version,
+        cluster_bits,
+        size,
+        l1_size: l1_size as usize,
+        l1_at: l1_at as usize,
+        table_at: table_at as usize,
+        table_clusters: table_clusters as usize,
+        clusters: clusters as usize,
+        blocks: blocks as usize,
+    })
+}
+
+fn all_zero(bytes: &[u8]) -> bool {
+    let zero = |part: &[u8]| part.iter().fold(0, |or, byte| or | byte) == 0;
+    let (groups, rest) = bytes.as_chunks::<512>();
+    groups.iter().all(|group| zero(group)) && zero(rest)
+}

@@ -1,0 +1,22 @@
+//! A plain implementation of the qcow2 image core: the same calls and answers
+//! as the proved one, written independently of it.
+#![forbid(unsafe_code)]
+
+mod check;
+mod counts;
+mod entries;
+mod header;
+mod list;
+pub mod plain_disk;
+mod reading;
+mod storing;
+
+pub use answers::{Found, Outcome, Verdict};
+pub use check::{check, difference, repair};
+pub use reading::{lookup, read, translate};
+pub use storing::{discard, write};
+
+/// This crate as an implementation of [`answers::Calls`].
+pub struct Plain;
+
+answers::calls_by_functions!(Plain, "plain");

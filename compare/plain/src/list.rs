@@ -1,0 +1,89 @@
+//! The list of unit stores of one write or discard, worked out from the image
+//! on entry, and its first units made in order.
+
+use answers::Outcome;
+
+/// One run of unit stores.
+#[derive(Clone, Copy)]
+pub(crate) enum Store<'a> {
+    /// One unit for each byte: `len` bytes from `at` on, all zero but for
+    /// `data` from byte `start` of them on.
+    Fill { at: usize, len: usize, start: usize, data: &'a [u8] },
+    /// One unit: a stored count.
+    Count { at: usize, value: u16 },
+    /// One unit: an L1 or L2 entry.
+    Entry { at: usize, value: u64 },
+}
+
+/// At most six runs: a write with a new L2 table has that many.
+pub(crate) struct List<'a> {
+    stores: [Store<'a>; 6],
+    len: usize,
+}
+
+impl<'a> List<'a> {
+    pub fn of<const K: usize>(stores: [Store<'a>; K]) -> List<'a> {
+        let mut list = List { stores: [Store::Count { at: 0, value: 0 }; 6], len: K };
+        list.stores[..K].copy_from_slice(&stores);
+        list
+    }
+
+    fn stores(&self) -> &[Store<'a>] {
+        &self.stores[..self.len]
+    }
+
+    /// Number of units.
+    pub fn units(&self) -> u64 {
+        self.stores().iter().map(Store::units).sum()
+    }
+
+    pub fn stores_a_count(&self) -> bool {
+        self.stores().iter().any(|store| matches!(store, Store::Count { .. }))
+    }
+
+    /// Makes the first `allowance` units.
+    pub fn apply(&self, image: &mut [u8], allowance: u64) -> Outcome {
+        let mut left = allowance;
+        for store in self.stores() {
+            let units = store.units();
+            store.make(image, units.min(left) as usize);
+            if units > left {
+                return Outcome::Stopped(allowance);
+            }
+            left -= units;
+        }
+        Outcome::Finished(allowance - left)
+    }
+}
+
+impl Store<'_> {
+    fn units(&self) -> u64 {
+        match *self {
+            Store::Fill { len, .. } => len as u64,
+            Store::Count { .. } | Store::Entry { .. } => 1,
+        }
+    }
+
+    /// Makes the first `units` units of this run.
+    fn make(&self, image: &mut [u8], units: usize) {
+        match *self {
+            Store::Fill { at, start, data, .. } => fill(&mut image[at..at + units], start, data),
+            _ if units == 0 => {}
+            Store::Count { at, value } => {
+                image[at..at + 2].copy_from_slice(&value.to_be_bytes());
+            }
+            Store::Entry { at, value } => {
+                image[at..at + 8].copy_from_slice(&value.to_be_bytes());
+            }
+        }
+    }
+}
+
+/// Zeros with `data` from `start` on, as far as `part` goes.
+fn fill(part: &mut [u8], start: usize, data: &[u8]) {
+    let (head, rest) = part.split_at_mut(start.min(part.len()));
+    let (body, tail) = rest.split_at_mut(data.len().min(rest.len()));
+    head.fill(0);
+    body.copy_from_slice(&data[..body.len()]);
+    tail.fill(0);
+}

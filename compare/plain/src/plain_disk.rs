@@ -1,0 +1,262 @@
+//! The plain disk: one byte for each guest offset, fed each call of a series,
+//! and the claim that holds after every call. A checker for tests.
+
+use std::collections::{BTreeMap, BTreeSet};
+
+use answers::{Calls, Outcome, Verdict};
+
+use crate::entries::Rules;
+use crate::header::{be16, be64, Header};
+use crate::storing::{discard_list, write_list};
+
+/// Disks up to this size are compared by one read of the whole.
+const WHOLE: u64 = 128 << 10;
+
+/// One call of a series.
+#[derive(Clone, Copy, Debug)]
+pub enum Call<'a> {
+    Write {
+        offset: u64,
+        data: &'a [u8],
+    },
+    Discard {
+        cluster: u64,
+    },
+    /// A repair with a scratch of this length.
+    Repair {
+        scratch: usize,
+    },
+}
+
+/// Guest bytes in pages of the cluster size; a missing page is all zeros.
+#[derive(Clone)]
+struct PlainDisk {
+    size: u64,
+    page: u64,
+    pages: BTreeMap<u64, Vec<u8>>,
+}
+
+impl PlainDisk {
+    fn get(&self, offset: u64, len: usize) -> Vec<u8> {
+        let mut bytes = vec![0; len];
+        self.parts(offset, len, |number, at, range| {
+            if let Some(page) = self.pages.get(&number) {
+                bytes[range.clone()].copy_from_slice(&page[at..at + range.len()]);
+            }
+        });
+        bytes
+    }
+
+    fn set(&mut self, offset: u64, bytes: &[u8]) {
+        let mut parts = Vec::new();
+        self.parts(offset, bytes.len(), |number, at, range| parts.push((number, at, range)));
+        for (number, at, range) in parts {
+            if !self.pages.contains_key(&number) && bytes[range.clone()].iter().all(|&b| b == 0) {
+                continue;
+            }
+            let size = self.page as usize;
+            let page = self.pages.entry(number).or_insert_with(|| vec![0; size]);
+            page[at..at + range.len()].copy_from_slice(&bytes[range]);
+        }
+    }
+
+    /// Page number, place in the page and range of the request, page by page.
+    fn parts(
+        &self,
+        offset: u64,
+        len: usize,
+        mut part: impl FnMut(u64, usize, std::ops::Range<usize>),
+    ) {
+        let mut done = 0;
+        while done < len {
+            let at = offset + done as u64;
+            let inside = at % self.page;
+            let end = len.min(done + (self.page - inside) as usize);
+            part(at / self.page, inside as usize, done..end);
+            done = end;
+        }
+    }
+}
+
+/// What the paper settles for a call from the image it is handed: the length
+/// of its list and whether that stores a count, or the number.
+type Settled = Result<(u64, bool), u32>;
+
+fn settle(image: &[u8], call: Call) -> Settled {
+    match call {
+        Call::Write { offset, data } => {
+            write_list(image, offset, data).map(|list| (list.units(), list.stores_a_count()))
+        }
+        Call::Discard { cluster } => {
+            discard_list(image, cluster).map(|list| (list.units(), list.stores_a_count()))
+        }
+        Call::Repair { scratch } => match crate::check(image, &mut vec![0; scratch]) {
+            Verdict::Sound => Ok((0, false)),
+            Verdict::Leaks(leaks) => Ok((leaks, true)),
+            Verdict::Refused(number) => Err(number),
+            _ => Err(17),
+        },
+    }
+}
+
+fn expected(settled: Settled, allowance: u64) -> Outcome {
+    match settled {
+        Err(number) => Outcome::Refused(number),
+        Ok((units, _)) if units <= allowance => Outcome::Finished(units),
+        Ok(_) => Outcome::Stopped(allowance),
+    }
+}
+
+/// A series of calls of one implementation, followed by the plain disk.
+#[derive(Clone)]
+pub struct Series<'c> {
+    calls: &'c dyn Calls,
+    disk: PlainDisk,
+}
+
+impl<'c> Series<'c> {
+    /// Starts from an image that is sound or leaking.
+    pub fn start(calls: &'c dyn Calls, image: &[u8]) -> Result<Series<'c>, String> {
+        let header = Header::judge(image).map_err(|number| format!("refused {number}"))?;
+        let page = header.cluster() as u64;
+        let disk = PlainDisk { size: header.size, page, pages: BTreeMap::new() };
+        let mut series = Series { calls, disk };
+        for (offset, len) in series.reads(image) {
+            let bytes = series.read(image, offset, len)?;
+            series.disk.set(offset, &bytes);
+        }
+        series.hold(image, false)?;
+        Ok(series)
+    }
+
+    /// Makes one call and tests that the claim holds after it.
+    pub fn step(
+        &mut self,
+        image: &mut [u8],
+        call: Call,
+        allowance: u64,
+    ) -> Result<Outcome, String> {
+        let settled = settle(image, call);
+        let outcome = self.run(image, call, allowance);
+        let expected = expected(settled, allowance);
+        if outcome != expected {
+            return Err(format!("answered {outcome:?} in place of {expected:?}"));
+        }
+        self.feed(image, call, outcome, settled.is_ok_and(|(_, counts)| counts))?;
+        let repaired = matches!((call, outcome), (Call::Repair { .. }, Outcome::Finished(_)));
+        self.hold(image, repaired)?;
+        Ok(outcome)
+    }
+
+    fn run(&self, image: &mut [u8], call: Call, allowance: u64) -> Outcome {
+        match call {
+            Call::Write { offset, data } => self.calls.write(image, offset, data, allowance),
+            Call::Discard { cluster } => self.calls.discard(image, cluster, allowance),
+            Call::Repair { scratch } => {
+                self.calls.repair(image, &mut vec![0xA5; scratch], allowance)
+            }
+        }
+    }
+
+    /// The plain disk's step: the bytes of a stopped call are chosen as they
+    /// read, which the claim forces, and must be old or new.
+    fn feed(
+        &mut self,
+        image: &[u8],
+        call: Call,
+        outcome: Outcome,
+        stores_a_count: bool,
+    ) -> Result<(), String> {
+        let (offset, new) = match call {
+            Call::Write { offset, data } => (offset, data.to_vec()),
+            Call::Discard { cluster } if !matches!(outcome, Outcome::Refused(_)) => {
+                let offset = cluster * self.disk.page;
+                let len = self.disk.page.min(self.disk.size - offset);
+                (offset, vec![0; len as usize])
+            }
+            _ => return Ok(()),
+        };
+        match outcome {
+            Outcome::Refused(_) => {}
+            Outcome::Finished(_) => self.disk.set(offset, &new),
+            Outcome::Stopped(_) => {
+                let old = self.disk.get(offset, new.len());
+                let now = self.read(image, offset, new.len())?;
+                let whole = now == old || now == new;
+                let each = (0..now.len()).all(|k| now[k] == old[k] || now[k] == new[k]);
+                if !(whole || each && !stores_a_count) {
+                    return Err(format!("stopped: bytes at {offset} neither old nor new"));
+                }
+                self.disk.set(offset, &now);
+            }
+        }
+        Ok(())
+    }
+
+    /// Reads agree with the plain disk and the check says sound or leaking.
+    fn hold(&self, image: &[u8], repaired: bool) -> Result<(), String> {
+        for (offset, len) in self.reads(image) {
+            if self.read(image, offset, len)? != self.disk.get(offset, len) {
+                return Err(format!("read of {len} at {offset} is not the plain disk's"));
+            }
+        }
+        let mut scratch = vec![0x5A; image.len() / self.disk.page as usize];
+        let verdict = self.calls.check(image, &mut scratch);
+        if !verdict.is_usable() || repaired && verdict != Verdict::Sound {
+            return Err(format!("the check says {verdict:?}"));
+        }
+        let header = Header::judge(image).map_err(|number| format!("refused {number}"))?;
+        let differs = |cluster: usize| {
+            let count = be16(image, header.count_at(image, cluster));
+            (count == 0) != (scratch[cluster] == 0)
+        };
+        match (0..scratch.len()).find(|&cluster| repaired && differs(cluster)) {
+            Some(cluster) => Err(format!("repaired, but count of {cluster} is wrong")),
+            None => Ok(()),
+        }
+    }
+
+    fn read(&self, image: &[u8], offset: u64, len: usize) -> Result<Vec<u8>, String> {
+        let mut out = vec![0xC3; len];
+        match self.calls.read(image, offset, &mut out) {
+            Ok(()) => Ok(out),
+            Err(number) => Err(format!("read of {len} at {offset} refused {number}")),
+        }
+    }
+
+    /// The reads that show the whole disk: one, or for a long disk one around
+    /// each guest cluster that can be other than zeros, and the disk's ends.
+    fn reads(&self, image: &[u8]) -> Vec<(u64, usize)> {
+        let PlainDisk { size, page, ref pages } = self.disk;
+        if size <= WHOLE {
+            return vec![(0, size as usize)];
+        }
+        let mut wanted: BTreeSet<u64> = pages.keys().copied().chain(mapped(image)).collect();
+        wanted.extend([0, (size - 1) / page]);
+        let around = |cluster: u64| {
+            let from = (cluster * page).saturating_sub(1);
+            let to = size.min((cluster + 1) * page + 1);
+            (from, (to - from) as usize)
+        };
+        wanted.into_iter().map(around).collect()
+    }
+}
+
+/// Guest clusters below the disk's end whose L2 entry is not 0.
+fn mapped(image: &[u8]) -> Vec<u64> {
+    let Ok(header) = Header::judge(image) else {
+        return Vec::new();
+    };
+    let rules = Rules::of(&header);
+    let per_table = header.cluster() / 8;
+    let mut found = Vec::new();
+    for l1_index in 0..header.l1_size {
+        let Some(table @ 1..) = rules.l1(be64(image, header.l1_at + 8 * l1_index)) else {
+            continue;
+        };
+        let entries = (0..per_table).filter(|k| be64(image, table + 8 * k) != 0);
+        found.extend(entries.map(|k| (l1_index * per_table + k) as u64));
+    }
+    found.retain(|&cluster| cluster < header.guest_clusters());
+    found
+}

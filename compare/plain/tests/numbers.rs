@@ -1,0 +1,134 @@
+//! Headers broken at each number, alone and with a higher break beside it, and
+//! the limits of the image's length.
+#![forbid(unsafe_code)]
+
+use made::breaks::break_header;
+use made::drive::usable;
+use made::image::Made;
+use made::plan::{bench_image, Plan};
+use made::rng::Rng;
+use plain::{check, discard, lookup, read, repair, translate, write, Found, Outcome, Verdict};
+
+/// Every call refuses the image with this number and changes nothing.
+fn all_refuse(made: &mut Made, number: u32) {
+    let before = made.bytes.clone();
+    let image = &mut made.bytes;
+    let (mut scratch, mut out) = ([7; 3], [7; 3]);
+    assert_eq!(translate(image, u64::MAX), Found::Refused(number));
+    assert_eq!(read(image, u64::MAX, &mut out), Err(number));
+    assert!(lookup(image, 0).is_empty());
+    assert_eq!(write(image, u64::MAX, &out, 9), Outcome::Refused(number));
+    assert_eq!(discard(image, u64::MAX, 9), Outcome::Refused(number));
+    assert_eq!(check(image, &mut scratch[..0]), Verdict::Refused(number));
+    assert_eq!(repair(image, &mut scratch, 9), Outcome::Refused(number));
+    assert!(*image == before && scratch == [7; 3] && out == [7; 3]);
+}
+
+#[test]
+fn breaks() {
+    let mut rng = Rng::from_env("breaks", 1);
+    let mut tried = [0; 11];
+    for _ in 0..400 {
+        let sound = usable(&mut rng);
+        for lowest in 1..=10 {
+            for highest in lowest..=10 {
+                let mut made = sound.clone();
+                let beside = highest > lowest && break_header(&mut made, highest, &mut rng);
+                if break_header(&mut made, lowest, &mut rng) {
+                    all_refuse(&mut made, lowest);
+                    tried[lowest as usize] += 1 + u32::from(beside);
+                }
+            }
+        }
+    }
+    assert!(tried[1..].iter().all(|&count| count > 100), "{tried:?}");
+}
+
+fn refusal(image: &[u8]) -> u32 {
+    match check(image, &mut vec![0; image.len() / 512 + 1]) {
+        Verdict::Refused(number) => number,
+        _ => 0,
+    }
+}
+
+#[test]
+fn longest_image() {
+    let mut rng = Rng::new(2);
+    let plan = Plan {
+        version: 3,
+        cluster_bits: 16,
+        size: 1 << 40,
+        l1_size: 4096,
+        spare: 1024 - 4,
+        longer_table: 0,
+    };
+    let mut made = plan.build(&mut rng);
+    assert_eq!((made.bytes.len(), refusal(&made.bytes)), (67_108_864, 0));
+    made.bytes.resize(67_108_864 + 65_536, 0);
+    assert_eq!(refusal(&made.bytes), 5);
+}
+
+#[test]
+fn edges() {
+    for (k, (image, number)) in made::edges::all().iter().enumerate() {
+        assert_eq!(refusal(image), *number, "edge {k}");
+    }
+}
+
+#[test]
+fn tables_at_the_end() {
+    // An L1 table of no entries may stand at the image's end, not past it.
+    let mut made = bench_image();
+    made.put64(24, 0);
+    made.put32(36, 0);
+    for (place, number) in [(8192, 0), (8192 + 512, 9), (0, 0), (u64::MAX - 511, 9)] {
+        made.put64(40, place);
+        assert_eq!(refusal(&made.bytes), number);
+    }
+    // One that ends where the image ends.
+    let mut made = bench_image();
+    for (l1_size, number) in [(64, 0), (65, 9)] {
+        made.put32(36, l1_size);
+        made.put64(40, 15 * 512);
+        made.bytes[15 * 512..].fill(0);
+        assert_eq!(refusal(&made.bytes), number);
+    }
+}
+
+/// The last guest cluster may be partly beyond the disk's end.
+#[test]
+fn partial_cluster() {
+    let mut made = bench_image();
+    made.put64(24, 65_025);
+    let image = &mut made.bytes;
+    assert_eq!(write(image, 65_024, &[5, 5], u64::MAX), Outcome::Refused(11));
+    assert_eq!(write(image, 65_024, &[5], u64::MAX), Outcome::Finished(1028));
+    assert_eq!(lookup(image, 65_024), [5]);
+    assert_eq!(translate(image, 65_025), Found::Refused(11));
+    assert_eq!(discard(image, 128, u64::MAX), Outcome::Refused(11));
+    assert_eq!(discard(image, 127, u64::MAX), Outcome::Finished(2));
+    assert_eq!(translate(image, 65_024), Found::Absent);
+}
+
+#[test]
+fn order_after_ten() {
+    let mut made = bench_image();
+    let mut scratch = [7; 16];
+    made.put64(made.l1_at, 1);
+    let image = &mut made.bytes;
+    // 11 before the entry, a length of 0 looks at none, 15 before the verdict.
+    assert_eq!(translate(image, 65_536), Found::Refused(11));
+    assert_eq!(translate(image, 65_535), Found::Absent);
+    assert_eq!(translate(image, 0), Found::Refused(12));
+    assert_eq!(read(image, 0, &mut [0; 65_537]), Err(11));
+    assert_eq!(read(image, 32_767, &mut [0; 2]), Err(12));
+    assert_eq!(read(image, 0, &mut []), Ok(()));
+    assert_eq!(write(image, 0, &[], 0), Outcome::Finished(0));
+    assert_eq!(write(image, 0, &[1], 0), Outcome::Refused(12));
+    assert_eq!(discard(image, 63, 0), Outcome::Refused(12));
+    assert_eq!(check(image, &mut scratch[..15]), Verdict::Refused(15));
+    assert_eq!(repair(image, &mut scratch[..15], 0), Outcome::Refused(15));
+    assert_eq!(scratch, [7; 16]);
+    assert_eq!(repair(image, &mut scratch, 0), Outcome::Refused(17));
+    assert_eq!(scratch, [1, 1, 1, 1, 0, 0, 0, 0, 0, 0, 0, 0, 0, 0, 0, 0]);
+}
