@@ -1,8 +1,7 @@
 -- The starred lines of paper 01, "The bench image", and its lines on the header, as one table. It is proved in proofs/Table.antt.
 -- Assumes nothing.
-use Prim.Native.Nat.{ℕ, _≤_}
+use Prim.Native.Nat.{ℕ}
 use mathlib.Core.Path.{_≡_}
-use mathlib.Core.Logic.{_≢_}
 use mathlib.Core.List.{List, [], _∷_, _++_}
 use lib.ListN.{length, take}
 use lib.Seq.{sets}

@@ -1,20 +1,20 @@
 -- What each call answers and leaves once the header is accepted, by its request. Assumes nothing.
-use Prim.Native.Nat.{ℕ, suc, _+_, _-_, _*_, _/_, _%_, _^_, _≤_, _<_}
-use native.Mathlib.Nat.{div-add-mod', mod-lt, div-lt-iff-lt-mul, mul-le-mul-right}
+use Prim.Native.Nat.{ℕ, _+_, _-_, _*_, _/_, _%_, _^_, _≤_, _<_}
+use native.Mathlib.Nat.{div-add-mod', mod-lt, mul-le-mul-right}
 use native.Mathlib.Omega.{arith}
-use mathlib.Core.Path.{_≡_, refl, sym, ap, _∙_}
-use mathlib.Core.Bool.{Bool, true, false, _||_}
+use mathlib.Core.Path.{_≡_, refl}
+use mathlib.Core.Bool.{true, false, _||_}
 use mathlib.Core.List.{List}
 use borrow.Author.Tests.{lt-ltb, le-ltb, le-leb, lt-leb, eq-eqb, ne-eqb}
-use lib.Dec.{ltb, leb, eqb}
+use lib.Dec.{ltb}
 use lib.ListN.{length}
 use lib.Pow.{pow-pos}
 use lib.Seq.{take-at}
 use Rattle.tally.specs.Tally.{figures}
 use Rattle.tally.proofs.Laws.{length-figures}
 use Rattle.qcow2_store.specs.Leaks.{Figured}
-use Rattle.choice.specs.Pick.{if_then_else_, unless, ceilDiv}
-use Rattle.units.specs.Plan.{Plan, refused, units, ended, Done}
+use Rattle.choice.specs.Pick.{ceilDiv}
+use Rattle.units.specs.Plan.{ended, Done}
 use Rattle.units.specs.declared.Outcome.{Outcome}
 use Rattle.units.specs.declared.Outcome.the-variants.{Refused as NotDone}
 use Rattle.units.proofs.Steps.{refusal, nothing}

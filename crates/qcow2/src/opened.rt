@@ -59,7 +59,7 @@ pub(crate) fn check(image: &[u8], scratch: &mut [u8], g: Geometry) -> Verdict
     requires { ⌜ Opened g (now image) ⌝ }
     ensures { λ r. ⌜ (r ≡ checked (now (image .entry)) (length (now (scratch .entry)))) × (now (scratch .exit) ≡ scratchLeft (now (image .entry)) (now (scratch .entry))) ⌝ }
 {
-    if scratch.len() < g.clusters {
+    if g.clusters > scratch.len() {
         return Verdict::Refused(15);
     }
     qcow2_check::check(image, scratch, g)

@@ -1,5 +1,5 @@
 -- An accepted image as the machinery sees it: its geometry, its entries, and their laws. Assumes nothing.
-use Prim.Native.Nat.{ℕ, zero, suc, _+_, _-_, _*_, _/_, _%_, _^_, _≤_, _<_}
+use Prim.Native.Nat.{ℕ, _+_, _-_, _*_, _/_, _%_, _^_, _≤_, _<_}
 use native.Mathlib.Nat.{div-lt-iff-lt-mul, div-add-mod', mul-le-mul-right, le-of-mul-le-mul-right, one-le-pow, zero-lt-suc, add-sub-of-le, mul-div-cancel, mul-mod-left, zero-div, mul-pos, pos-of-ne-zero}
 use native.Mathlib.Omega.{arith}
 use mathlib.Core.Path.{_≡_, refl, ap}
@@ -14,7 +14,7 @@ use Rattle.choice.specs.Pick.{ceilDiv}
 use Rattle.endian.specs.Big.{be32}
 use Rattle.qcow2_spec.specs.Header.{version, clusterSize, clusters, diskSize, l1Size, l1At, tableAt, tableClusters, perBlock, blocks, perTable}
 use Rattle.qcow2_spec.specs.Entries.{place, goodPlace, goodL1, goodL2, compressed, zeroMark, newEntry}
-use Rattle.qcow2_spec.proofs.Facts.{Facts, placed, good-place1, good-place2, up-le, le-up, cover-law, power, c-big, c-pos, c-8, c-2, n-whole, n-pos, h-pos, e-pos}
+use Rattle.qcow2_spec.proofs.Facts.{Facts, placed, good-place1, good-place2, up-le, le-up, cover-law, power, c-pos, c-8, c-2, n-whole, n-pos, h-pos, e-pos}
 
 abbrev pub geo : List ℕ → Geo
 geo s =

@@ -15,7 +15,7 @@ use Rattle.qcow2_spec.specs.Header.{version, clusterSize, clusters, disk
 use Rattle.qcow2_spec.specs.Counts.{countAt, countOf}
 use Rattle.qcow2_spec.proofs.Numbers.{mem8, mem2, place-of, entries-cong}
 use Rattle.qcow2_spec.proofs.Facts.{Facts, in-block, c-8, c-big, n-whole, block-named}
-use Rattle.qcow2_spec.proofs.Geo.{geo, code, geo-ok}
+use Rattle.qcow2_spec.proofs.Geo.{geo, code}
 
 module _ (s : List ℕ) (f : Facts s) where
   module _ (t : List ℕ) where

@@ -4,7 +4,7 @@ use native.Mathlib.Nat.{div-add-mod', add-assoc, add-zero, div-div-eq-div-mul}
 use native.Mathlib.Omega.{arith}
 use mathlib.Core.Path.{_≡_, refl, sym, ap, ap₂, _∙_, subst}
 use mathlib.Core.List.{List, _∷_}
-use lib.ListN.{getD, take, drop}
+use lib.ListN.{getD, drop}
 use lib.Seq.{getD-take, getD-drop}
 use Rattle.endian.proofs.Entries.{be64-drop}
 use Rattle.clusters.proofs.Cell.{num, enc, num-cong, mem}

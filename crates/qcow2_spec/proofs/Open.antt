@@ -1,5 +1,5 @@
 -- An accepted image is opened by what its header gives. Assumes nothing.
-use Prim.Native.Nat.{ℕ, zero, suc, _+_, _-_, _*_, _/_, _%_, _^_, _≤_, _<_}
+use Prim.Native.Nat.{ℕ, zero, suc, _+_, _-_, _*_, _^_, _≤_, _<_}
 use native.Mathlib.Omega.{arith}
 use mathlib.Core.Path.{_≡_, refl, sym, ap, _∙_}
 use mathlib.Core.List.{List}
@@ -7,12 +7,11 @@ use lib.ListN.{length}
 use lib.Pow.{pow-add}
 use Rattle.choice.specs.Pick.{unless}
 use Rattle.endian.specs.Big.{be32, be64}
-use Rattle.qcow2_spec.specs.Header.{clusterSize, clusters, l1Size, l1At, tableAt, tableClusters, perTable, blocks, blockAt, judge}
+use Rattle.qcow2_spec.specs.Header.{clusterSize, tableAt, tableClusters, perTable, blocks, blockAt, judge}
 use Rattle.qcow2_spec.specs.declared.Geometry.{Geometry}
-use Rattle.qcow2_spec.specs.declared.Judged.{Judged}
 use Rattle.qcow2_spec.specs.declared.Judged.the-variants.{Refused, Accepted}
 use Rattle.qcow2_spec.specs.Opened.{geometry, opened, Opened}
-use Rattle.qcow2_spec.proofs.Facts.{Facts, facts, c-8, n-whole, block-named, block-entry}
+use Rattle.qcow2_spec.proofs.Facts.{Facts, facts, c-8, n-whole, block-named}
 
 module _ (s : List ℕ) (e : judge s ≡ 0) where
   f : Facts s

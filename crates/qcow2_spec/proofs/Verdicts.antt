@@ -1,7 +1,6 @@
 -- What the verdict says, in the machinery's terms. Assumes nothing.
 use Prim.Native.Nat.{ℕ, zero, suc, _+_, _-_, _*_, _/_, _≤_, _<_, zero-le, min}
-use native.Mathlib.Nat.{zero-add, not-suc-le-zero, le-refl, zero-div, div-lt-iff-lt-mul}
-use native.Mathlib.Decide.{ℕ-discrete}
+use native.Mathlib.Nat.{zero-add, not-suc-le-zero, zero-div, div-lt-iff-lt-mul}
 use native.Mathlib.Omega.{arith}
 use mathlib.Core.Path.{_≡_, refl, sym, ap, _∙_, subst}
 use mathlib.Core.Logic.{_⊎_, inl, inr, _≢_}
@@ -12,6 +11,8 @@ use lib.ListN.{length, getD, drop}
 use borrow.Author.Tests.{ltb-false, eqb-true, eqb-false, not-false, le-ltb}
 use Rattle.clusters.proofs.Cell.{mem}
 use Rattle.clusters.proofs.Meta.{l1, l2, tab, blk, refsOf, Sound}
+use Rattle.choice.proofs.Runs.{none-found}
+use Rattle.choice.proofs.Found.{none-first, none-counted, none-count}
 use Rattle.choice.specs.Pick.{if_then_else_, first, count}
 use Rattle.endian.specs.Big.{be64, part, entries}
 use Rattle.endian.proofs.Entries.{be64-drop}
@@ -107,35 +108,6 @@ module _ (s : List ℕ) where
       entry-pass i (be64 t 0) _ (h 0 (omega arith))
       ∙ l1-pass next k (suc i) (drop 8 t) (λ x l. subst EntryOk (sym (next-number t x)) (h (suc x) (omega arith)))
 
--- ---- searches
-first-none : (p : ℕ → Bool) (i k : ℕ) → i + k ≤ first p i k → (x : ℕ) → i ≤ x → x < i + k → p x ≡ false
-first-none p i zero h x l m = absurd (omega arith)
-first-none p i (suc k) h x l m = go (two-ways (p i)) (ℕ-discrete i x) (λ q d. first-none p (suc i) k (omega arith) x (omega arith) (omega arith))
-  where
-    go : (p i ≡ true) ⊎ (p i ≡ false) → Dec (i ≡ x) → (first p i (suc k) ≡ first p (suc i) k → i ≢ x → p x ≡ false) → p x ≡ false
-    go (inl e) d r = let q : first p i (suc k) ≡ i = if-yes (p i) i _ e in absurd (omega arith)
-    go (inr e) (yes d) r = rw d at e
-    go (inr e) (no d) r = r (if-no (p i) i _ e) d
-
-none-first : (p : ℕ → Bool) (i k : ℕ) → ((x : ℕ) → i ≤ x → x < i + k → p x ≡ false) → first p i k ≡ i + k
-none-first p i zero h = omega arith
-none-first p i (suc k) h = if-no (p i) i _ (h i (le-refl i) (omega arith)) ∙ none-first p (suc i) k (λ x l m. h x (omega arith) (omega arith)) ∙ omega arith
-
-count-none : (p : ℕ → Bool) (i k : ℕ) → count p i k ≡ 0 → (x : ℕ) → i ≤ x → x < i + k → p x ≡ false
-count-none p i zero h x l m = absurd (omega arith)
-count-none p i (suc k) h x l m = go (two-ways (p i)) (ℕ-discrete i x) (λ d. count-none p (suc i) k (omega arith) x (omega arith) (omega arith))
-  where
-    go : (p i ≡ true) ⊎ (p i ≡ false) → Dec (i ≡ x) → (i ≢ x → p x ≡ false) → p x ≡ false
-    go (inl e) d r = let q : _≡_ {A = ℕ} (if p i then 1 else 0) 1 = if-yes (p i) 1 0 e in absurd (omega arith)
-    go (inr e) (yes d) r = rw d at e
-    go (inr e) (no d) r = r d
-
-none-count : (p : ℕ → Bool) (i k : ℕ) → ((x : ℕ) → i ≤ x → x < i + k → p x ≡ false) → count p i k ≡ 0
-none-count p i zero h = refl
-none-count p i (suc k) h =
-    let q : _≡_ {A = ℕ} (if p i then 1 else 0) 0 = if-no (p i) 1 0 (h i (le-refl i) (omega arith)) in
-    omega (arith, none-count p (suc i) k (λ x l m. h x (omega arith) (omega arith)))
-
 -- ---- the counts against the figures fs
 module _ (s fs : List ℕ) where
   abbrev shared : ℕ
@@ -159,11 +131,11 @@ module _ (s fs : List ℕ) where
 
   single : ltb shared (clusters s) ≡ false → (k : ℕ) → k < clusters s → getD fs k 0 ≤ 1
   unfolding twice
-  single h k l = ltb-false _ _ (first-none (twice fs) 0 (clusters s) (omega (arith, ltb-false shared (clusters s) h)) k zero-le (omega arith))
+  single h k l = ltb-false _ _ (none-found (twice fs) 0 (clusters s) k (omega (arith, ltb-false shared (clusters s) h)) zero-le (omega arith))
 
   covered : ltb low (clusters s) ≡ false → (k : ℕ) → k < clusters s → getD fs k 0 ≤ countOf s k
   unfolding short
-  covered h k l = ltb-false _ _ (first-none (short s fs) 0 (clusters s) (omega (arith, ltb-false low (clusters s) h)) k zero-le (omega arith))
+  covered h k l = ltb-false _ _ (none-found (short s fs) 0 (clusters s) k (omega (arith, ltb-false low (clusters s) h)) zero-le (omega arith))
 
   counts-last : ((k : ℕ) → k < clusters s → getD fs k 0 ≤ 1) → ((k : ℕ) → k < clusters s → getD fs k 0 ≤ countOf s k) → countsVerdict s fs ≡ last
   unfolding countsVerdict twice short
@@ -181,7 +153,7 @@ module _ (s fs : List ℕ) where
 
   last-exact : last ≡ IsSound → (k : ℕ) → k < clusters s → countOf s k ≤ getD fs k 0
   unfolding over
-  last-exact h k l = ltb-false _ _ (count-none (over s fs) 0 (clusters s) (go (two-ways (ltb 0 leaks))) k zero-le (omega arith))
+  last-exact h k l = ltb-false _ _ (none-counted (over s fs) 0 (clusters s) (go (two-ways (ltb 0 leaks))) k zero-le (omega arith))
     where
       go : (ltb 0 leaks ≡ true) ⊎ (ltb 0 leaks ≡ false) → leaks ≡ 0
       go (inl e) = let q : Leaks leaks ≡ IsSound = sym (if-yes (ltb 0 leaks) (Leaks leaks) IsSound e) ∙ h in absurd (let z : _≡_ {A = ℕ} 0 1 = cc in omega arith)

@@ -8,39 +8,19 @@ use mathlib.Core.Logic.{_⊎_, inl, inr}
 use mathlib.Core.List.{List, _∷_, _++_}
 use lib.Dec.{ltb}
 use lib.ListN.{drop}
-use borrow.Author.Tests.{eq-eqb, ne-eqb, ltb-true, ltb-false}
+use borrow.Author.Tests.{ne-eqb, ltb-true, ltb-false}
 use Rattle.choice.specs.Pick.{ceilDiv}
 use Rattle.endian.specs.Big.{be64, entries}
 use Rattle.tally.specs.Tally.{run, joined, occurrences}
+use Rattle.tally.proofs.Occurs.{occurs-head, occurs-more, in-run}
 use Rattle.qcow2_spec.specs.Header.{clusterSize, clusters, perBlock, perTable, blocks, blockAt, tableAt, tableClusters, table, l1At, l1Size}
 use Rattle.qcow2_spec.specs.Counts.{countAt}
 use Rattle.qcow2_spec.specs.References.{named, fixedRefs, references, l1Refs, l1Entries}
-use Rattle.qcow2_spec.proofs.Numbers.{be64-drop, next-number, take-entries}
+use Rattle.endian.proofs.Entries.{be64-drop, take-entries}
+use Rattle.qcow2_spec.proofs.Numbers.{next-number}
 use Rattle.qcow2_spec.proofs.Facts.{Facts, c-pos, c-2, c-8, h-pos, in-block, block-named, n-whole}
 use Rattle.qcow2_spec.proofs.Refers.{occ-append}
 use Rattle.qcow2_store.specs.Leaks.{Apart}
-
--- ---- a reference that is there
-occurs-head : (k x : ℕ) (xs : List ℕ) → x ≡ k → occurrences k (x ∷ xs) ≡ 1 + occurrences k xs
-unfolding occurrences
-occurs-head k x xs e = rw (eq-eqb x k e)
-
-occurs-more : (k x : ℕ) (xs : List ℕ) → occurrences k xs ≤ occurrences k (x ∷ xs)
-unfolding occurrences
-occurs-more k x xs = omega arith
-
-in-run : (i n k : ℕ) → i ≤ k → k < i + n → 1 ≤ occurrences k (run i n)
-unfolding run
-in-run i zero k h g = absurd (omega arith)
-in-run i (suc n) k h g = go (λ p. in-run (suc i) n k p (omega arith)) (ltb i k) refl
-  where
-    go : (suc i ≤ k → 1 ≤ occurrences k (run (suc i) n)) → (t : Bool) → ltb i k ≡ t → 1 ≤ occurrences k (i ∷ run (suc i) n)
-    go r true e =
-        let p : i < k = ltb-true i k e in
-        omega (arith, r (omega arith), occurs-more k i (run (suc i) n))
-    go r false e =
-        let p : k ≤ i = ltb-false i k e in
-        omega (arith, occurs-head k i (run (suc i) n) (omega arith))
 
 -- ---- the references of blocks, whose entries are the first B of t
 module _ (C k : ℕ) where

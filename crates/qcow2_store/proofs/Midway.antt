@@ -12,6 +12,7 @@ use Rattle.endian.proofs.Laws.{be16-same, be64-same}
 use Rattle.units.specs.Units.{UnitStore, applyAll}
 use Rattle.units.proofs.Laws.{length-applyAll}
 use Rattle.units.proofs.Steps.{two}
+use Rattle.units.proofs.Elsewhere.{Off, none, off-append, untouched}
 use Rattle.tally.proofs.Laws.{length-figures}
 use Rattle.qcow2_spec.specs.Header.{clusters, blocks}
 use Rattle.qcow2_spec.specs.Counts.{countAt, countOf, setCount}
@@ -20,11 +21,11 @@ use Rattle.qcow2_spec.specs.Check.{repairUnits}
 use Rattle.qcow2_spec.specs.Opened.{Opened}
 use Rattle.qcow2_spec.specs.declared.Geometry.{Geometry}
 use Rattle.qcow2_spec.proofs.Facts.{count-in}
-use Rattle.qcow2_store.specs.Blocks.{Reach, placeOf}
+use Rattle.qcow2_store.specs.Blocks.{Reach, countPlace}
 use Rattle.qcow2_store.specs.Leaks.{Apart, Figured, fix, fixes}
-use Rattle.qcow2_store.proofs.Sizes.{sizes, block-in, named, reach, count-is}
+use Rattle.qcow2_store.proofs.Sizes.{sizes, block-in, reach, count-is}
 use Rattle.qcow2_store.proofs.Counts.{run-count}
-use Rattle.qcow2_store.proofs.Fixes.{Off, none, off-append, untouched, off-fix, fixes-most, fixes-same}
+use Rattle.qcow2_store.proofs.Fixes.{off-fix, fixes-most, fixes-same}
 
 -- ---- the units of a repair
 module _ (s fs : List ℕ) where
@@ -79,7 +80,7 @@ module _ (g : Geometry) (s fs : List ℕ) (o : Opened g s) (p : Apart s) (a k : 
       be64-same _ _ _ _ (untouched _ 8 (repairUnits s fs 0 k) s a (off-units s fs k (g .table + 8 * (k / 2 ^ (g .bits - 1))) 8 (length s)
       (λ j l. (count-in s (sizes g s o .all) j (omega (arith, in-s)), rw (o .is-table) (p .table j (k / 2 ^ (g .bits - 1)) (omega (arith, in-s)) b)))))
 
-  place-now : placeOf g (midway s fs a k) k ≡ countAt s k
+  place-now : countPlace g (midway s fs a k) k ≡ countAt s k
   place-now = rw table-now (count-is g s o k)
 
   reach-now : Reach g (midway s fs a k) k
@@ -104,12 +105,12 @@ module _ (g : Geometry) (s fs : List ℕ) (o : Opened g s) (p : Apart s) (a k : 
   -- one run of clusters
   pub state-next : (n : ℕ) (t vs : List ℕ) (m r : ℕ) (u : List ℕ) → State s fs a k n t → k + m ≤ g .clusters → k % 2 ^ (g .bits - 1) + m ≤ 2 ^ (g .bits - 1)
       → ((d : ℕ) → d < m → getD vs d 0 ≡ getD fs (k + d) 0)
-      → r ≡ n + length (fixes t (placeOf g t k) vs m) → u ≡ applyAll (take (a - n) (fixes t (placeOf g t k) vs m)) t → State s fs a (k + m) r u
+      → r ≡ n + length (fixes t (countPlace g t k) vs m) → u ≡ applyAll (take (a - n) (fixes t (countPlace g t k) vs m)) t → State s fs a (k + m) r u
   state-next n t vs m r u st l w f x y =
       let z = sizes g s o in
       let at : ℕ = countAt s k in
       let c : (d : ℕ) → d < m → countAt s (k + d) ≡ at + 2 * d = λ d q. omega (arith, run-count s k (2 ^ (g .bits - 1)) (z .half) (z .some) d (omega arith), run-count s k (2 ^ (g .bits - 1)) (z .half) (z .some) 0 (omega arith), ap (countAt s) (add-zero k)) in
-      let e : fixes t (placeOf g t k) vs m ≡ fixes s at vs m =
+      let e : fixes t (countPlace g t k) vs m ≡ fixes s at vs m =
       rw (st .image, place-now) (fixes-same s at vs (midway s fs a k) m (λ d q. rw (← c d q) (counts-now d (omega arith)))) in
       let v = units-run s fs k at vs m c f in
       let X : r ≡ n + length (fixes s at vs m) = rw e at x in

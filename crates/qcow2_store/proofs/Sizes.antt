@@ -12,7 +12,7 @@ use Rattle.qcow2_spec.specs.Counts.{countAt}
 use Rattle.qcow2_spec.specs.Opened.{Opened}
 use Rattle.qcow2_spec.specs.declared.Geometry.{Geometry}
 use Rattle.qcow2_spec.proofs.Facts.{Facts, facts, c-2, in-block, cluster-in}
-use Rattle.qcow2_store.specs.Blocks.{Named, Reach, placeOf}
+use Rattle.qcow2_store.specs.Blocks.{Named, Reach, countPlace}
 
 -- H, the counts of a block, is half of the bytes of a cluster
 pub record Sizes (g : Geometry) (s : List ℕ) : Type 0 where
@@ -57,7 +57,7 @@ module _ (g : Geometry) (s : List ℕ) (o : Opened g s) where
   pub reach : (k : ℕ) → k < g .clusters → Reach g s k
   reach k h = record { low = omega (arith, o .low); high = o .high; named = named (k / 2 ^ (g .bits - 1)) (block-in k h) }
 
-  pub count-is : (k : ℕ) → placeOf g s k ≡ countAt s k
+  pub count-is : (k : ℕ) → countPlace g s k ≡ countAt s k
   unfolding countAt
   count-is k = rw (block-is, ← sizes .half)
 

@@ -16,8 +16,8 @@ pub record Named (g : Geometry) (s : List ℕ) (b : ℕ) : Type 0 where
   pub inside : be64 s (g .table + 8 * b) + 2 ^ g .bits ≤ length s
 
 -- the place of cluster k's count, by the refcount table of s
-abbrev pub placeOf : Geometry → List ℕ → ℕ → ℕ
-placeOf g s k = be64 s (g .table + 8 * (k / 2 ^ (g .bits - 1))) + 2 * (k % 2 ^ (g .bits - 1))
+abbrev pub countPlace : Geometry → List ℕ → ℕ → ℕ
+countPlace g s k = be64 s (g .table + 8 * (k / 2 ^ (g .bits - 1))) + 2 * (k % 2 ^ (g .bits - 1))
 
 -- it can be found
 pub record Reach (g : Geometry) (s : List ℕ) (k : ℕ) : Type 0 where

@@ -6,7 +6,7 @@ ghost use Rattle.choice.specs.Pick.{first};
 ghost use Rattle.endian.specs.Big.{be64};
 ghost use Rattle.qcow2_spec.specs.Counts.{countAt, freeAt, freeFrom};
 ghost use Rattle.qcow2_spec.specs.Opened.{Opened};
-ghost use Rattle.qcow2_store.specs.Blocks.{Named, Reach, placeOf, zeroCount, zeroIn};
+ghost use Rattle.qcow2_store.specs.Blocks.{Named, Reach, countPlace, zeroCount, zeroIn};
 use qcow2_spec::Geometry;
 
 // 2 to the power bits: the bytes of a cluster.
@@ -42,9 +42,9 @@ pub fn block_at(image: &[u8], g: Geometry, b: usize) -> usize
 }
 
 // The place of cluster k's count, by the refcount table as it stands. All later counts of its block are in the image too.
-pub fn place_of(image: &[u8], g: Geometry, k: usize) -> usize
+pub fn count_place(image: &[u8], g: Geometry, k: usize) -> usize
     requires { ⌜ Reach g (now image) k ⌝ }
-    ensures { λ r. ⌜ (r ≡ placeOf g (now (image .entry)) k) × (r + 2 * (2 ^ (g .bits - 1) - k % 2 ^ (g .bits - 1)) ≤ length (now (image .entry))) ⌝ }
+    ensures { λ r. ⌜ (r ≡ countPlace g (now (image .entry)) k) × (r + 2 * (2 ^ (g .bits - 1) - k % 2 ^ (g .bits - 1)) ≤ length (now (image .entry))) ⌝ }
 {
     block_at(image, g, block_of(k, g.bits)) + 2 * index_of(k, g.bits)
 }
@@ -54,7 +54,7 @@ pub fn count_at(image: &[u8], g: Geometry, k: usize) -> usize
     requires { ⌜ Opened g (now image) × (k < g .clusters) ⌝ }
     ensures { λ r. ⌜ (r ≡ countAt (now (image .entry)) k) × (r + 2 ≤ length (now (image .entry))) ⌝ }
 {
-    place_of(image, g, k)
+    count_place(image, g, k)
 }
 
 // The lowest count from index j on that is 0, in a block's counts below end; end where there is none.

@@ -9,7 +9,7 @@ ghost use Rattle.qcow2_spec.specs.Header.{clusters};
 ghost use Rattle.qcow2_spec.specs.References.{figuresOf};
 ghost use Rattle.qcow2_spec.specs.Check.{repairUnits, verdict, verdictPlan};
 ghost use Rattle.qcow2_spec.specs.Opened.{Opened};
-ghost use Rattle.qcow2_store.specs.Blocks.{Reach, placeOf};
+ghost use Rattle.qcow2_store.specs.Blocks.{Reach, countPlace};
 ghost use Rattle.qcow2_store.specs.Leaks.{Figured, Leaking, fix, fixes};
 use crate::free;
 use qcow2_spec::Geometry;
@@ -62,14 +62,14 @@ fn repair_block(
     allowance: usize,
 ) -> usize
     requires { ⌜ (Reach g (now image) i × (i % 2 ^ (g .bits - 1) + length (now refs) ≤ 2 ^ (g .bits - 1))) × (n + length (now refs) ≤ 67108864) ⌝ }
-    ensures { λ r. ⌜ (r ≡ n + length (fixes (now (image .entry)) (placeOf g (now (image .entry)) i) (now (refs .entry)) (length (now (refs .entry))))) × (now (image .exit) ≡ applyAll (take (allowance - n) (fixes (now (image .entry)) (placeOf g (now (image .entry)) i) (now (refs .entry)) (length (now (refs .entry))))) (now (image .entry))) ⌝ }
+    ensures { λ r. ⌜ (r ≡ n + length (fixes (now (image .entry)) (countPlace g (now (image .entry)) i) (now (refs .entry)) (length (now (refs .entry))))) × (now (image .exit) ≡ applyAll (take (allowance - n) (fixes (now (image .entry)) (countPlace g (now (image .entry)) i) (now (refs .entry)) (length (now (refs .entry))))) (now (image .entry))) ⌝ }
 {
-    let at = free::place_of(image, g, i);
+    let at = free::count_place(image, g, i);
     repair_run(image, at, refs, n, allowance)
 }
 
 // A leaking image, with the figures in refs.
-fn repair(image: &mut [u8], g: Geometry, refs: &[u8], allowance: usize) -> Outcome
+pub fn repair(image: &mut [u8], g: Geometry, refs: &[u8], allowance: usize) -> Outcome
     requires { ⌜ Leaking g (now image) (now refs) ⌝ }
     ensures { λ r. ⌜ Done (planned (repairUnits (now (image .entry)) (figuresOf (now (image .entry))) 0 (clusters (now (image .entry))))) allowance (now (image .entry)) r (now (image .exit)) ⌝ }
 {

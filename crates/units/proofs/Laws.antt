@@ -1,10 +1,10 @@
 -- Laws of unit stores, of a run of stores, and of a cluster that is filled.
 -- Assumes nothing.
-use Prim.Native.Nat.{ℕ, zero, suc, _+_, _-_, _≤_, _<_, min}
+use Prim.Native.Nat.{ℕ, zero, suc, _+_, _-_, _≤_, min}
 use mathlib.Core.Path.{_≡_, refl, sym, ap, _∙_}
 use mathlib.Core.List.{List, [], _∷_, _++_, append-assoc, append-nil}
 use native.Mathlib.Omega.{arith}
-use lib.ListN.{length-set, length, take, drop, set, replicate, length-append, length-take, length-drop, length-replicate}
+use lib.ListN.{length-set, length, take, drop, set, replicate, length-append, length-take, length-replicate}
 use lib.Seq.{sets, length-sets, length-take-le, take-nil}
 use native.Mathlib.Nat.{sub-zero, zero-sub, suc-sub-suc}
 use Rattle.endian.specs.Big.{splice, bytes16, bytes64}

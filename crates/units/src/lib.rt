@@ -1,8 +1,8 @@
 // Stores, unit by unit, within an allowance. Each is told what is left of the allowance and returns what is left after it.
 ghost use mathlib.Core.Path.{_≡_};
 ghost use Prim.Native.Nat.{_+_, _-_, _≤_, _<_, min};
-ghost use mathlib.Core.List.{List, [], _∷_};
-ghost use lib.ListN.{length, take, drop, replicate};
+ghost use mathlib.Core.List.{[], _∷_};
+ghost use lib.ListN.{length, take};
 ghost use Rattle.endian.specs.Big.{splice};
 ghost use Rattle.units.specs.Units.{applyAll, count, entry, fill, cluster};
 ghost use Rattle.units.specs.Plan.{ended};

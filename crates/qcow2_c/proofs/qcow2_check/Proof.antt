@@ -1,4 +1,4 @@
-use mathlib.Core.Path.{_≡_, ap, _∙_}
+use mathlib.Core.Path.{ap, _∙_}
 use borrow.Author.Needs.{needs}
 use Rattle.qcow2_c.specs.Codes.{verdictCode, verdictFirst, verdictSecond}
 use Rattle.qcow2_c.proofs.qcow2_check.Statement.{statement}

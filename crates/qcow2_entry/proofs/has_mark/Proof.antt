@@ -1,6 +1,5 @@
 use mathlib.Core.Path.{refl}
 use Rattle.qcow2_spec.specs.Entries.{zeroMark}
-use borrow.Author.Needs.{needs}
 use Rattle.qcow2_entry.proofs.has_mark.Statement.{statement}
 use Rattle.qcow2_entry.proofs.has_mark.Tie as tie
 

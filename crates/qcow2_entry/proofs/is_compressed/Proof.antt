@@ -1,6 +1,5 @@
 use mathlib.Core.Path.{refl}
 use Rattle.qcow2_spec.specs.Entries.{compressed}
-use borrow.Author.Needs.{needs}
 use Rattle.qcow2_entry.proofs.is_compressed.Statement.{statement}
 use Rattle.qcow2_entry.proofs.is_compressed.Tie as tie
 

@@ -1,5 +1,5 @@
 use Prim.Native.Nat.{_*_, _^_}
-use mathlib.Core.Path.{_≡_, sym, _∙_}
+use mathlib.Core.Path.{_≡_}
 use mathlib.Core.Bool.{true, false}
 use denote.Ref.{now}
 use Rattle.endian.specs.Big.{be64}

@@ -1,5 +1,4 @@
 use native.Mathlib.Omega.{arith}
-use Prim.Native.Nat.{_+_}
 use borrow.Author.Tests.{le-leb, lt-leb}
 use Rattle.units.specs.Plan.{ended}
 use Rattle.units.proofs.end_of.Statement.{statement}

@@ -1,8 +1,7 @@
 use Prim.Native.Nat.{_<_, _/_}
-use mathlib.Core.Path.{_≡_, sym, subst}
+use mathlib.Core.Path.{sym, subst}
 use denote.Ref.{now}
 use borrow.Author.Needs.{needs}
-use native.Mathlib.Omega.{arith}
 use Rattle.qcow2_spec.specs.declared.Way.{Way}
 use Rattle.qcow2_spec.specs.Header.{l1Size, perTable}
 use Rattle.qcow2_spec.specs.Ready.{Ready}

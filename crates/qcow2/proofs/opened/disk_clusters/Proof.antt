@@ -1,6 +1,4 @@
-use Prim.Native.Nat.{_+_, _-_, _/_, _^_}
-use native.Mathlib.Omega.{arith}
-use mathlib.Core.Path.{_≡_}
+use Prim.Native.Nat.{_-_}
 use borrow.Author.Needs.{needs}
 use Rattle.qcow2.proofs.opened.disk_clusters.Statement.{statement}
 use Rattle.qcow2.proofs.opened.disk_clusters.Tie as tie

@@ -1,0 +1,160 @@
+/*
+ * The core from C: makes an image in memory, writes, cuts a write as a power
+ * cut would, checks, repairs, reads back. Prints each step and returns 0 only
+ * if every answer is the expected one.
+ *
+ *   gcc -Wall -Wextra -std=c11 -I../../include example.c ../../target/staticlib/libqcow2_c.a -o example
+ * or: make run
+ */
+#include "qcow2_core.h"
+
+#include <inttypes.h>
+#include <stdio.h>
+#include <string.h>
+
+enum { CLUSTER = 512, CLUSTERS = 16, LENGTH = CLUSTER * CLUSTERS };
+
+static uint8_t image[LENGTH];
+static uint8_t scratch[CLUSTERS];
+static int failed;
+
+static void expect(const char *step, uint64_t got, uint64_t wanted)
+{
+    printf("%-52s %8" PRIu64 "  %s\n", step, got, got == wanted ? "ok" : "WRONG");
+    if (got != wanted) {
+        printf("%-52s %8" PRIu64 "\n", "  expected", wanted);
+        failed = 1;
+    }
+}
+
+static void store(size_t at, uint64_t value, int bytes)
+{
+    for (int k = bytes - 1; k >= 0; k--, value >>= 8)
+        image[at + (size_t)k] = (uint8_t)value;
+}
+
+static uint64_t load(size_t at, int bytes)
+{
+    uint64_t value = 0;
+    for (int k = 0; k < bytes; k++)
+        value = value << 8 | image[at + (size_t)k];
+    return value;
+}
+
+/* Version 3, clusters of 512 bytes, a disk of 65,536 bytes: refcount table in
+ * cluster 1, refcount block in 2, L1 table of two entries in 3. */
+static void make_image(void)
+{
+    memset(image, 0, sizeof image);
+    store(0, 0x514649FB, 4);    /* magic */
+    store(4, 3, 4);             /* version */
+    store(20, 9, 4);            /* cluster_bits */
+    store(24, 65536, 8);        /* size */
+    store(36, 2, 4);            /* l1_size */
+    store(40, 3 * CLUSTER, 8);  /* l1_table_offset */
+    store(48, 1 * CLUSTER, 8);  /* refcount_table_offset */
+    store(56, 1, 4);            /* refcount_table_clusters */
+    store(96, 4, 4);            /* refcount_order: counts of 16 bits */
+    store(100, 104, 4);         /* header_length */
+    store(1 * CLUSTER, 2 * CLUSTER, 8);
+    for (size_t k = 0; k < 4; k++)
+        store(2 * CLUSTER + 2 * k, 1, 2);
+}
+
+static uint64_t free_clusters(void)
+{
+    uint64_t count = 0;
+    for (size_t k = 0; k < CLUSTERS; k++)
+        count += load(2 * CLUSTER + 2 * k, 2) == 0;
+    return count;
+}
+
+static uint32_t check(uint64_t *first)
+{
+    uint64_t second = 0;
+    *first = 0;
+    return qcow2_check(image, LENGTH, scratch, CLUSTERS, first, &second);
+}
+
+static uint32_t write_text(uint64_t offset, const char *text, uint64_t allowance, uint64_t *units)
+{
+    return qcow2_write(image, LENGTH, offset, (const uint8_t *)text, strlen(text), allowance, units);
+}
+
+/* A write of 5 bytes needs an L2 table and a data cluster: 1,028 units. */
+static void cut_and_repair(void)
+{
+    uint64_t units = 0, first = 0;
+    expect("write cut after 1027 units: stopped", write_text(33285, "hello", 1027, &units), QCOW2_STOPPED);
+    expect("  units", units, 1027);
+    expect("check after the cut: leaks", check(&first), QCOW2_LEAKS);
+    expect("  clusters leaked", first, 2);
+    expect("repair: done", qcow2_repair(image, LENGTH, scratch, CLUSTERS, UINT64_MAX, &units),
+           QCOW2_DONE);
+    expect("  units", units, 2);
+    expect("check after the repair: sound", check(&first), QCOW2_DONE);
+    expect("  free clusters", free_clusters(), 12);
+}
+
+static void whole_write(void)
+{
+    uint64_t units = 0, first = 0, host = 0;
+    uint8_t out[7];
+    expect("whole write: done", write_text(33285, "hello", UINT64_MAX, &units), QCOW2_DONE);
+    expect("  units", units, 1028);
+    expect("  free clusters", free_clusters(), 10);
+    expect("check: sound", check(&first), QCOW2_DONE);
+    expect("translate: host offset", qcow2_translate(image, LENGTH, 33285, &host), QCOW2_DONE);
+    expect("  host offset", host, 2565);
+    expect("lookup: bytes to the end of the cluster", qcow2_lookup(image, LENGTH, 33285), 507);
+    expect("  the data are there", memcmp(image + host, "hello", 5) == 0, 1);
+    expect("read 7 bytes: done", qcow2_read(image, LENGTH, 33284, out, sizeof out), QCOW2_DONE);
+    expect("  zero, the data, zero", memcmp(out, "\0hello\0", 7) == 0, 1);
+    expect("write in place: done", write_text(33280, "abc", UINT64_MAX, &units), QCOW2_DONE);
+    expect("  units", units, 3);
+}
+
+static void refusals(void)
+{
+    uint64_t units = 0, first = 0, second = 0;
+    uint8_t out = 0xC3, before[LENGTH];
+    memcpy(before, image, LENGTH);
+    expect("read past the disk's end: refused", qcow2_read(image, LENGTH, 65536, &out, 1),
+           QCOW2_WRONG_RANGE);
+    expect("  the output is as it was", out, 0xC3);
+    expect("write over a cluster's end: refused", write_text(510, "abc", UINT64_MAX, &units),
+           QCOW2_WRONG_RANGE);
+    expect("check with a short scratch: refused",
+           qcow2_check(image, LENGTH, scratch, CLUSTERS - 1, &first, &second), QCOW2_SHORT_SCRATCH);
+    expect("  the image is as it was", memcmp(before, image, LENGTH) == 0, 1);
+    store(100, 112, 4);
+    expect("header_length 112: refused", check(&first), QCOW2_NOT_SUPPORTED);
+    store(100, 104, 4);
+    expect("check: sound", check(&first), QCOW2_DONE);
+}
+
+static void discard(void)
+{
+    uint64_t units = 0, first = 0, host = 0;
+    expect("discard guest cluster 65: done", qcow2_discard(image, LENGTH, 65, UINT64_MAX, &units),
+           QCOW2_DONE);
+    expect("  units", units, 2);
+    expect("translate: not allocated", qcow2_translate(image, LENGTH, 33285, &host), QCOW2_ABSENT);
+    expect("check: sound", check(&first), QCOW2_DONE);
+    expect("  free clusters", free_clusters(), 11);
+    expect("a count of 0 with two references is short by", (uint64_t)-qcow2_difference(0, 2), 2);
+}
+
+int main(void)
+{
+    uint64_t first = 0;
+    make_image();
+    expect("check of the new image: sound", check(&first), QCOW2_DONE);
+    expect("  free clusters", free_clusters(), 12);
+    cut_and_repair();
+    whole_write();
+    refusals();
+    discard();
+    puts(failed ? "example: WRONG" : "example: all as expected");
+    return failed;
+}

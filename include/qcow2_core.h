@@ -1,0 +1,203 @@
+/*
+ * qcow2_core.h: read, write, discard, check and repair a qcow2 image that lies
+ * in memory. The C interface of the proved static library libqcow2_c.a.
+ *
+ * What is lent and to whom
+ *   Every pointer is lent for the time of one call. Nothing is kept after the
+ *   call, so the caller owns everything before and after it and may move or
+ *   free it. Nothing is allocated, nothing global is touched, no file is opened
+ *   and nothing is printed. Calls on different images may run at the same time;
+ *   two calls on the same image may do so if neither changes it.
+ *
+ *   - image, n: the bytes of the whole image file. qcow2_write, qcow2_discard
+ *     and qcow2_repair change them; the others only read them. Every call
+ *     judges the header afresh and accepts any bytes whatever.
+ *   - out, data, scratch: bytes of the caller, with their length.
+ *   - host, units, first, second: one number each, valid only where the call's
+ *     description says that it is given. Set it before the call if you want to
+ *     read it after any answer.
+ *
+ *   A pointer must not be NULL, also where its length is 0, and has to be good
+ *   for its length. A run that a call writes to must not overlap any other run
+ *   of that call. No alignment is asked of bytes. Lengths are at most
+ *   PTRDIFF_MAX.
+ *
+ * Words
+ *   C is the cluster size, 2 to the power cluster_bits; N = n / C the clusters
+ *   of the image; size the guest disk's length in bytes. A stored count is a
+ *   cluster's refcount (16 bits), its references are what the tables name.
+ *   A unit is the storing of one count, of one L1 or L2 entry, or of one byte
+ *   of a fill.
+ *
+ * Answers
+ *   0 is done: finished, sound, or a host offset, as the call has it.
+ *   1 to 999 is a refusal: no lent byte was changed, but for QCOW2_DAMAGED_IMAGE
+ *   (17), which fills the scratch as the check does. 1001 and up are the other
+ *   answers. The lowest number from 1 to 10 that applies comes first, then 15
+ *   or 11, then 12 and 13 on the way through the tables, then 14 or 16.
+ */
+#ifndef QCOW2_CORE_H
+#define QCOW2_CORE_H
+
+#include <stddef.h>
+#include <stdint.h>
+
+#ifdef __cplusplus
+extern "C" {
+#endif
+
+/* Done: finished, sound, or a host offset. */
+#define QCOW2_DONE 0u
+
+/* ---- Refusals: the header ------------------------------------------------ */
+
+/* The image is shorter than 512 bytes. */
+#define QCOW2_TOO_SHORT 1u
+/* It does not begin with the magic 51 46 49 FB. */
+#define QCOW2_WRONG_MAGIC 2u
+/* The version is neither 2 nor 3. */
+#define QCOW2_WRONG_VERSION 3u
+/* cluster_bits is not 9 to 16 (clusters of 512 to 65,536 bytes). */
+#define QCOW2_WRONG_CLUSTER_BITS 4u
+/* n is not a whole number of clusters, or is above 67,108,864. */
+#define QCOW2_WRONG_LENGTH 5u
+/* A backing file, encryption or snapshots; in version 3 also counts of another
+ * width than 16 bits (refcount_order not 4) or a header_length other than 104. */
+#define QCOW2_NOT_SUPPORTED 6u
+/* Version 3: a bit of incompatible_features is set. */
+#define QCOW2_INCOMPATIBLE 7u
+/* The disk is above 2^40 bytes, the L1 table has more than 4,096 entries, or
+ * they do not reach to the end of the disk. */
+#define QCOW2_WRONG_SIZE 8u
+/* The L1 table or the refcount table does not start at a cluster or runs past
+ * the image, or the refcount table has too few entries for all clusters. */
+#define QCOW2_WRONG_TABLE 9u
+/* A refcount table entry is wrong: one that has to name a refcount block names
+ * none inside the image, or one after the last needed is not 0. */
+#define QCOW2_WRONG_BLOCK 10u
+
+/* ---- Refusals: the request and what is met on its way -------------------- */
+
+/* The guest range runs past the disk's end; a write does not lie inside one
+ * guest cluster; a discarded guest cluster begins at or past the disk's end. */
+#define QCOW2_WRONG_RANGE 11u
+/* An L1 or L2 entry on the way breaks the rules for entries. */
+#define QCOW2_BAD_ENTRY 12u
+/* The L2 entry is that of a compressed cluster. */
+#define QCOW2_COMPRESSED 13u
+/* A write needs new clusters, one or two, and fewer have the stored count 0. */
+#define QCOW2_NO_ROOM 14u
+/* The scratch of a check or repair is shorter than N bytes. */
+#define QCOW2_SHORT_SCRATCH 15u
+/* The host cluster of a discard has the stored count 0 already. */
+#define QCOW2_COUNT_IS_ZERO 16u
+/* Repair of a damaged image: only leaks are repaired. */
+#define QCOW2_DAMAGED_IMAGE 17u
+
+/* ---- Other answers ------------------------------------------------------- */
+
+/* The allowance was spent before the last unit (write, discard, repair). */
+#define QCOW2_STOPPED 1001u
+/* The guest offset reads as zeros (translate). */
+#define QCOW2_ZEROS 1002u
+/* The guest offset is not allocated, so it reads as zeros (translate). */
+#define QCOW2_ABSENT 1003u
+/* Leaking: counts above their references, nothing worse (check). */
+#define QCOW2_LEAKS 1004u
+/* Damaged, an L1 entry breaks the rules (check). */
+#define QCOW2_BAD_L1 1005u
+/* Damaged, an L2 entry breaks the rules (check). */
+#define QCOW2_BAD_L2 1006u
+/* Damaged, a cluster has two references or more (check). */
+#define QCOW2_SHARED 1007u
+/* Damaged, a count is below its references (check). */
+#define QCOW2_SHORT 1008u
+
+/* ---- Reading ------------------------------------------------------------- */
+
+/*
+ * Where one guest offset lies. QCOW2_DONE gives its place in the image in *host;
+ * QCOW2_ZEROS and QCOW2_ABSENT say that there is none; else 1 to 13. An offset
+ * at or past size is 11.
+ */
+uint32_t qcow2_translate(const uint8_t *image, size_t n, uint64_t offset, uint64_t *host);
+
+/*
+ * Reads out_len guest bytes from offset on. QCOW2_DONE: out is filled whole.
+ * Else 1 to 13, and out is as it was. Length 0 at or before the disk's end is
+ * done.
+ */
+uint32_t qcow2_read(const uint8_t *image, size_t n, uint64_t offset, uint8_t *out, size_t out_len);
+
+/*
+ * How many guest bytes from offset on lie in one piece in the image: to the end
+ * of the cluster or of the disk, whichever comes first. They start at the place
+ * that qcow2_translate gives. 0 where translation gives no host offset; the
+ * number of a refusal is had from qcow2_translate.
+ */
+size_t qcow2_lookup(const uint8_t *image, size_t n, uint64_t offset);
+
+/* ---- Storing -------------------------------------------------------------
+ *
+ * Each call has a list of units, worked out from the image as it was on entry,
+ * and makes the first of them, as many as allowance lets it. QCOW2_DONE: the
+ * whole list was made; QCOW2_STOPPED: the allowance was spent before its end.
+ * Both give the units made in *units. UINT64_MAX as allowance never stops.
+ * To cut a call after u units is to leave the image as a power cut would. A
+ * stopped call is not to be continued: call again, and a new list is made.
+ */
+
+/*
+ * Writes len bytes at offset, inside one guest cluster. Else 1 to 14.
+ * The lists: data in place, len units; a zero mark with a place, the cluster
+ * and the entry, C + 1; a new cluster, its count, the cluster and the entry,
+ * C + 2; a new L2 table too, 2C + 4.
+ */
+uint32_t qcow2_write(uint8_t *image, size_t n, uint64_t offset, const uint8_t *data, size_t len,
+                     uint64_t allowance, uint64_t *units);
+
+/*
+ * Discards the guest cluster of this number (guest offset / C). Else 1 to 13
+ * or 16. The list: the L2 entry set to 0, then the count less one; shorter
+ * where less is there.
+ */
+uint32_t qcow2_discard(uint8_t *image, size_t n, uint64_t cluster, uint64_t allowance,
+                       uint64_t *units);
+
+/*
+ * Sets each count of a leaking image that is above its references to them,
+ * rising by cluster, one unit each. A sound image has an empty list. Else 1 to
+ * 10, 15 or 17. Unless refused with 1 to 15, scratch[0..N] ends as the check
+ * would leave it for the image as it was on entry, whatever the allowance.
+ */
+uint32_t qcow2_repair(uint8_t *image, size_t n, uint8_t *scratch, size_t m, uint64_t allowance,
+                      uint64_t *units);
+
+/* ---- Checking ------------------------------------------------------------ */
+
+/*
+ * Counts the references and judges the stored counts by them. scratch has m
+ * bytes, at least N. Unless refused (1 to 10, 15), scratch[0..N] ends as the
+ * references of each cluster, with 2 for two or more; the rest is as it was.
+ *
+ *   QCOW2_DONE    sound
+ *   QCOW2_LEAKS   *first: number of clusters whose count is too high
+ *   QCOW2_BAD_L1  *first: L1 index of the first bad entry
+ *   QCOW2_BAD_L2  *first, *second: L1 and L2 index of the first bad entry
+ *   QCOW2_SHARED  *first: the lowest cluster with two references or more
+ *   QCOW2_SHORT   *first: the lowest cluster whose count is too low
+ */
+uint32_t qcow2_check(const uint8_t *image, size_t n, uint8_t *scratch, size_t m, uint64_t *first,
+                     uint64_t *second);
+
+/*
+ * A cluster's stored count less the scratch's figure, from -2 to 65,535. Below
+ * zero the cluster is short, above zero it leaks.
+ */
+int32_t qcow2_difference(uint16_t stored, uint8_t figure);
+
+#ifdef __cplusplus
+}
+#endif
+
+#endif

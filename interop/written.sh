@@ -1,0 +1,75 @@
+# Sourced by run.sh: what qemu thinks of images that qstore changed. Beside each
+# image stands a raw file that gets the same bytes.
+
+both() { # FILE OFFSET LENGTH: random bytes, by qstore and to the raw file
+    head -c "$3" /dev/urandom > data
+    "$QSTORE" write "$1" "$2" < data > /dev/null
+    dd if=data of="$1.raw" bs=64k oflag=seek_bytes seek="$2" conv=notrunc status=none
+}
+
+compare() { # FILE
+    qemu-img compare -q -f qcow2 -F raw "$1" "$1.raw" && echo identical || echo different
+}
+
+start() { # FILE SIZE ROOM OPTIONS: an image with ROOM free clusters
+    create "$1" "$2" -o "$4"
+    pad "$1"; shorten "$1"
+    truncate -s "+$(($3 << $(field "$1" 20)))" "$1"
+    rm -f "$1.raw"; truncate -s "$2" "$1.raw"
+}
+
+# A command cut after some units: qemu finds the same leaks, the guest's bytes
+# are the old ones, and after the repair all is sound.
+cut() { # WHAT UNITS WANTED COMMAND OFFSET [LENGTH]
+    local what=$1 units=$2 wanted=$3; shift 3
+    local command=$1; shift
+    cp w cut; cp w.raw cut.raw
+    head -c 100 /dev/urandom | "$QSTORE" "$command" cut "$@" --allowance "$units" > /dev/null || true
+    expect "$what cut after $units units: qstore, qemu" "$(ours cut), $(theirs cut)" "$wanted, $wanted"
+    [ "$command" = write ] && expect "  the guest's bytes" "$(compare cut)" identical
+    "$QSTORE" repair cut > /dev/null
+    expect "  repaired by qstore" "$(ours cut), $(theirs cut)" 'sound, sound'
+}
+
+series() { # SIZE ROOM OPTIONS
+    local c end=$(($1)) at
+    echo "-- $3, disk of $1 bytes"
+    start w "$1" "$2" "$3"
+    c=$((1 << $(field w 20)))
+    # Nothing is there yet: a write allots an L2 table and a cluster.
+    for at in 1 $((c + 1)); do cut "new table: write" "$at" 'leaks 1' write $((c + 5)); done
+    for at in $((c + 2)) $((2 * c + 2)) $((2 * c + 3)); do
+        cut "new table: write" "$at" 'leaks 2' write $((c + 5))
+    done
+    for at in 0 $((c - 3)) $((3 * c + 7)) $((end / 2 - 100)) $((end - 300)); do
+        both w "$at" $((c / 2 < 300 || end - at < c / 2 ? 300 : c / 2))
+    done
+    both w $((5 * c)) $((4 * c))
+    expect "written by qstore: qemu's check, compare" "$(theirs w), $(compare w)" 'sound, identical'
+    for at in 1 $((c + 1)); do cut "write" "$at" 'leaks 1' write $((20 * c)); done
+    cut discard 1 'leaks 1' discard $((5 * c)) "$c"
+    "$QSTORE" discard w $((6 * c)) $((2 * c)) > /dev/null
+    dd if=/dev/zero of=w.raw bs=$c seek=6 count=2 conv=notrunc status=none
+    expect "discarded by qstore" "$(theirs w), $(compare w)" 'sound, identical'
+    qemu-io -f qcow2 -c "write -P 0x55 $((2 * c)) $((3 * c))" w > /dev/null
+    qemu-io -f raw -c "write -P 0x55 $((2 * c)) $((3 * c))" w.raw > /dev/null
+    pad w
+    both w $((c + 1)) $((2 * c))
+    expect "written by qemu, then by qstore" "$(ours w), $(theirs w), $(compare w)" 'sound, sound, identical'
+    expect "qstore reads what qemu reads" \
+        "$("$QSTORE" read w 0 "$end" | cmp -s - w.raw && echo yes || echo no)" yes
+}
+
+echo "== What qemu says of images that qstore changed"
+series 65536 60 compat=0.10,cluster_size=512
+series 65536 60 compat=1.1,cluster_size=512
+series 1048576 40 compat=1.1,cluster_size=4096
+series 16777216 40 compat=0.10,cluster_size=65536
+series 1073741824 40 compat=1.1,cluster_size=65536
+
+echo "-- a preallocated image, and zero marks"
+create w 1M -o preallocation=metadata,cluster_size=4096; pad w; shorten w
+qemu-io -f qcow2 -c 'write -P 0x77 0 64k' -c 'write -z 8k 16k' w > /dev/null
+qemu-img convert -f qcow2 -O raw w w.raw
+both w 9000 5000; both w 500000 70000
+expect "written by qstore" "$(ours w), $(theirs w), $(compare w)" 'sound, sound, identical'

@@ -1,0 +1,181 @@
+//! The command line.
+
+use std::ffi::OsString;
+use std::path::PathBuf;
+
+use crate::{help, number};
+
+pub struct Options {
+    pub json: bool,
+    pub image: PathBuf,
+    pub command: Command,
+}
+
+#[derive(Debug, PartialEq)]
+pub enum Command {
+    Info,
+    Check,
+    Repair(Change),
+    Map,
+    Read { offset: u64, length: u64 },
+    Write { offset: u64, change: Change },
+    Discard { offset: u64, length: u64, change: Change },
+}
+
+/// Options of the commands that change the image.
+#[derive(Clone, Copy, Debug, PartialEq)]
+pub struct Change {
+    pub allowance: u64,
+    pub force: bool,
+}
+
+pub enum Parsed {
+    Run(Options),
+    Help(&'static str),
+    Version,
+}
+
+/// A command's name, its operands beside the image, whether it changes the
+/// image, and its help.
+const COMMANDS: [(&str, &[&str], bool, &str); 7] = [
+    ("info", &[], false, help::INFO),
+    ("check", &[], false, help::CHECK),
+    ("repair", &[], true, help::REPAIR),
+    ("map", &[], false, help::MAP),
+    ("read", &["OFFSET", "LENGTH"], false, help::READ),
+    ("write", &["OFFSET"], true, help::WRITE),
+    ("discard", &["OFFSET", "LENGTH"], true, help::DISCARD),
+];
+
+/// What is asked, or what is wrong with the line.
+pub fn parse(args: impl IntoIterator<Item = OsString>) -> Result<Parsed, String> {
+    let mut args = args.into_iter();
+    let first = args.next().ok_or("a command is missing")?;
+    let name = match first.to_str() {
+        Some("--help" | "-h" | "help") => return Ok(Parsed::Help(help::MAIN)),
+        Some("--version") => return Ok(Parsed::Version),
+        Some(name) => name,
+        None => "",
+    };
+    let &(name, operands, changes, text) = COMMANDS
+        .iter()
+        .find(|command| command.0 == name)
+        .ok_or_else(|| format!("there is no command '{}'", first.to_string_lossy()))?;
+    let Some(line) = line(args, changes)? else {
+        return Ok(Parsed::Help(text));
+    };
+    let mut given = line.operands.into_iter();
+    let image = given.next().ok_or_else(|| format!("{name}: IMAGE is missing"))?.into();
+    let mut numbers = Vec::new();
+    for operand in operands {
+        let value = given.next().ok_or_else(|| format!("{name}: {operand} is missing"))?;
+        let value = number::parse(&value.to_string_lossy());
+        numbers.push(value.map_err(|fault| format!("{name}: {operand}: {fault}"))?);
+    }
+    if let Some(extra) = given.next() {
+        return Err(format!("{name}: '{}' is one operand too many", extra.to_string_lossy()));
+    }
+    let command = command(name, &numbers, line.change);
+    Ok(Parsed::Run(Options { json: line.json, image, command }))
+}
+
+fn command(name: &str, numbers: &[u64], change: Change) -> Command {
+    match (name, numbers) {
+        ("info", _) => Command::Info,
+        ("check", _) => Command::Check,
+        ("repair", _) => Command::Repair(change),
+        ("read", &[offset, length]) => Command::Read { offset, length },
+        ("write", &[offset]) => Command::Write { offset, change },
+        ("discard", &[offset, length]) => Command::Discard { offset, length, change },
+        _ => Command::Map,
+    }
+}
+
+struct Line {
+    operands: Vec<OsString>,
+    json: bool,
+    change: Change,
+}
+
+/// Operands and options; None if help is asked for.
+fn line(mut args: impl Iterator<Item = OsString>, changes: bool) -> Result<Option<Line>, String> {
+    let change = Change { allowance: u64::MAX, force: false };
+    let mut line = Line { operands: Vec::new(), json: false, change };
+    while let Some(arg) = args.next() {
+        match arg.to_str() {
+            Some("--") => {
+                line.operands.extend(args);
+                break;
+            }
+            Some("--help" | "-h") => return Ok(None),
+            Some("--json") => line.json = true,
+            Some("--force") if changes => line.change.force = true,
+            Some("--allowance") if changes => {
+                let value = args.next().ok_or("--allowance: the number of units is missing")?;
+                let value = number::parse(&value.to_string_lossy());
+                line.change.allowance = value.map_err(|fault| format!("--allowance: {fault}"))?;
+            }
+            Some(option) if option.len() > 1 && option.starts_with('-') => {
+                return Err(format!("there is no option '{option}' here"));
+            }
+            _ => line.operands.push(arg),
+        }
+    }
+    Ok(Some(line))
+}
+
+#[cfg(test)]
+mod tests {
+    use super::*;
+
+    fn run(line: &str) -> Result<Options, String> {
+        match parse(line.split_whitespace().map(OsString::from))? {
+            Parsed::Run(options) => Ok(options),
+            _ => Err("help".into()),
+        }
+    }
+
+    #[test]
+    fn commands() {
+        let plain = Change { allowance: u64::MAX, force: false };
+        let options = run("read a.qcow2 0x10 4k --json").unwrap();
+        assert!(options.json && options.image.as_os_str() == "a.qcow2");
+        assert_eq!(options.command, Command::Read { offset: 16, length: 4096 });
+        let options = run("write --allowance 514 -- --odd-name 33285").unwrap();
+        assert_eq!(options.image.as_os_str(), "--odd-name");
+        let cut = Change { allowance: 514, force: false };
+        assert_eq!(options.command, Command::Write { offset: 33_285, change: cut });
+        assert!(!options.json);
+        let command = run("discard a 1M 512").unwrap().command;
+        assert_eq!(command, Command::Discard { offset: 1 << 20, length: 512, change: plain });
+        let forced = Change { allowance: u64::MAX, force: true };
+        assert_eq!(run("repair --force a").unwrap().command, Command::Repair(forced));
+        assert_eq!(run("info a").unwrap().command, Command::Info);
+        assert_eq!(run("check a").unwrap().command, Command::Check);
+        assert_eq!(run("map -").unwrap().command, Command::Map);
+    }
+
+    #[test]
+    fn faults() {
+        let fault = |line: &str| run(line).err().expect(line);
+        assert_eq!(fault(""), "a command is missing");
+        assert_eq!(fault("list a"), "there is no command 'list'");
+        assert_eq!(fault("info"), "info: IMAGE is missing");
+        assert_eq!(fault("read a 0"), "read: LENGTH is missing");
+        assert_eq!(fault("check a b"), "check: 'b' is one operand too many");
+        assert_eq!(fault("check a --force"), "there is no option '--force' here");
+        assert!(fault("write a x").starts_with("write: OFFSET: 'x' is no number"));
+        assert!(fault("write a 0 --allowance").contains("missing"));
+    }
+
+    #[test]
+    fn every_command_has_help() {
+        for (name, _, changes, text) in COMMANDS {
+            let asked = parse([name, "--help"].map(OsString::from));
+            assert!(matches!(asked, Ok(Parsed::Help(found)) if found == text));
+            assert!(text.starts_with(&format!("qstore {name} IMAGE")));
+            assert_eq!(text.contains("--allowance"), changes);
+            assert!(help::MAIN.contains(&format!("qstore {name} ")));
+        }
+    }
+}

@@ -1,0 +1,73 @@
+//! The calls that change guest clusters, one guest cluster each.
+
+use qcow2_core::Outcome;
+
+use crate::cuts;
+
+#[derive(Clone, Copy)]
+pub enum Call<'a> {
+    Write { offset: u64, data: &'a [u8] },
+    Discard { cluster: u64 },
+}
+
+impl Call<'_> {
+    pub fn run(&self, image: &mut [u8], allowance: u64) -> Outcome {
+        match *self {
+            Call::Write { offset, data } => qcow2_core::write(image, offset, data, allowance),
+            Call::Discard { cluster } => qcow2_core::discard(image, cluster, allowance),
+        }
+    }
+
+    pub fn guest_cluster(&self, bits: u32) -> u64 {
+        match *self {
+            Call::Write { offset, .. } => offset >> bits,
+            Call::Discard { cluster } => cluster,
+        }
+    }
+
+    /// See [`cuts`].
+    pub fn cuts(&self, bits: u32, units: u64) -> Option<Vec<u64>> {
+        match self {
+            Call::Write { .. } => cuts::of_write(1 << bits, units),
+            Call::Discard { .. } => cuts::of_discard(units),
+        }
+    }
+}
+
+/// A write as calls that each lie inside one guest cluster. The range does not
+/// run past the disk's end.
+pub fn writes(offset: u64, data: &[u8], bits: u32) -> impl Iterator<Item = Call<'_>> + Clone {
+    let cluster = 1usize << bits;
+    let first = cluster - (offset as usize & (cluster - 1));
+    let (head, rest) = data.split_at(first.min(data.len()));
+    let head = Some(head).filter(|head| !head.is_empty()).into_iter();
+    let mut at = offset;
+    head.chain(rest.chunks(cluster)).map(move |data| {
+        let call = Call::Write { offset: at, data };
+        at += data.len() as u64;
+        call
+    })
+}
+
+#[cfg(test)]
+mod tests {
+    use super::*;
+
+    fn pieces(offset: u64, len: usize) -> Vec<(u64, usize)> {
+        let data = vec![0; len];
+        let piece = |call| match call {
+            Call::Write { offset, data } => (offset, data.len()),
+            Call::Discard { .. } => unreachable!(),
+        };
+        writes(offset, &data, 9).map(piece).collect()
+    }
+
+    #[test]
+    fn writes_are_split_at_guest_clusters() {
+        assert_eq!(pieces(0, 0), []);
+        assert_eq!(pieces(510, 2), [(510, 2)]);
+        assert_eq!(pieces(510, 3), [(510, 2), (512, 1)]);
+        assert_eq!(pieces(512, 1024), [(512, 512), (1024, 512)]);
+        assert_eq!(pieces(700, 1000), [(700, 324), (1024, 512), (1536, 164)]);
+    }
+}

@@ -1,0 +1,116 @@
+//! What the commands that change an image have in common.
+
+use std::fs::File;
+use std::path::PathBuf;
+
+use qcow2_core::Outcome;
+
+use super::check::{check, Checked};
+use crate::args::Change;
+use crate::call::Call;
+use crate::fields::Fields;
+use crate::findings;
+use crate::image_file::ImageFile;
+use crate::ordered::{Fault, Ordered};
+use crate::progress::Progress;
+use crate::report::Failure;
+
+/// An accepted image that may be changed.
+pub fn open(image: ImageFile, change: Change) -> Result<(PathBuf, Ordered<File>), Failure> {
+    let checked = check(&image)?;
+    prepare(image, checked, change)
+}
+
+/// The same for writes and discards: only sound and leaking images, since the
+/// promise about power cuts is for them.
+pub fn open_usable(image: ImageFile, change: Change) -> Result<(PathBuf, Ordered<File>), Failure> {
+    let checked = check(&image)?;
+    if !checked.verdict.is_usable() {
+        let (what, json) = findings::verdict(&checked.layout, &image.bytes, checked.verdict);
+        let advice = findings::advice(&checked.layout, &image.bytes, checked.verdict);
+        return Err(Failure::Damaged { what, json, advice: advice.into() });
+    }
+    prepare(image, checked, change)
+}
+
+/// Refuses what a change would make wrong without being seen.
+fn prepare(
+    image: ImageFile,
+    checked: Checked,
+    change: Change,
+) -> Result<(PathBuf, Ordered<File>), Failure> {
+    let autoclear = Fields::read(&image.bytes).map_or(0, |fields| fields.autoclear);
+    if autoclear != 0 && !change.force {
+        return Err(Failure::Other(format!(
+            "not changed: autoclear_features is 0x{autoclear:x}{}. The core neither knows these \
+             features nor clears the bits, and what they stand for would be wrong or lost \
+             afterwards.\n  Remove them with qemu first (`qemu-img bitmap --remove IMAGE NAME`), or \
+             give --force.",
+            if autoclear & 1 == 1 { " (bit 0: persistent bitmaps)" } else { "" }
+        )));
+    }
+    Ok((image.path, Ordered::new(image.file, checked.layout, image.bytes)))
+}
+
+/// Tries the calls in memory: the units of all, or the first refusal with the
+/// index of its call.
+pub fn trial<'a>(
+    ordered: &mut Ordered<File>,
+    calls: impl Iterator<Item = Call<'a>> + Clone,
+) -> Result<u64, (usize, u32)> {
+    let mut progress = Progress::new("trying in memory", calls.clone().count() as u64);
+    ordered.trial(calls, |done| progress.at(done))
+}
+
+/// Runs the calls in turn until the allowance is spent: the units, and whether
+/// all are finished.
+pub fn run<'a>(
+    ordered: &mut Ordered<File>,
+    label: &'static str,
+    total: u64,
+    allowance: u64,
+    calls: impl Iterator<Item = Call<'a>>,
+) -> Result<(u64, bool), Failure> {
+    let mut progress = Progress::new(label, total);
+    let (mut spent, mut finished) = (0, true);
+    for call in calls {
+        match ordered.call(&call, allowance - spent) {
+            Ok(Outcome::Finished(units)) => spent += units,
+            Ok(Outcome::Stopped(units)) => {
+                (spent, finished) = (spent + units, false);
+                break;
+            }
+            Ok(Outcome::Refused(number)) => return Err(unexpected(spent, number.into())),
+            Err(fault) => return Err(broken_off(spent, fault)),
+        }
+        progress.at(spent);
+    }
+    in_step(ordered, spent)?;
+    Ok((spent, finished))
+}
+
+/// The last look at memory and file.
+pub fn in_step(ordered: &Ordered<File>, spent: u64) -> Result<(), Failure> {
+    if ordered.is_in_step() {
+        Ok(())
+    } else {
+        Err(unexpected(spent, 0))
+    }
+}
+
+pub fn broken_off(spent: u64, fault: Fault) -> Failure {
+    match fault {
+        Fault::Unexpected(units) => unexpected(spent, units),
+        Fault::Io(error) => Failure::Other(format!(
+            "broken off after {spent} units and more: {error}. The file holds the first units of \
+             the list, as after a power cut: check it, and repair it if it leaks."
+        )),
+    }
+}
+
+fn unexpected(spent: u64, number: u64) -> Failure {
+    Failure::Other(format!(
+        "broken off after {spent} units: the core answered what no rule allows ({number}). Check \
+         the image, and report this."
+    ))
+}

@@ -1,0 +1,115 @@
+//! Where a call's list of units goes on from one kind of unit to the next. The
+//! file is flushed there, so that what a power cut leaves is the first units of
+//! the list.
+
+use std::ops::Range;
+
+use crate::layout::Layout;
+
+/// The ends of the kinds in a write's list, the last being its length; None if
+/// no write has a list of that length.
+pub fn of_write(cluster: u64, units: u64) -> Option<Vec<u64>> {
+    let c = cluster;
+    if units == 0 {
+        Some(vec![])
+    } else if units <= c {
+        // The data, in place.
+        Some(vec![units])
+    } else if units == c + 1 {
+        // The cluster, the entry without its zero mark.
+        Some(vec![c, c + 1])
+    } else if units == c + 2 {
+        // Count, cluster, L2 entry.
+        Some(vec![1, c + 1, c + 2])
+    } else if units == 2 * c + 4 {
+        // Table's count, table, count, cluster, L2 entry, L1 entry.
+        Some(vec![1, c + 1, c + 2, 2 * c + 2, 2 * c + 3, 2 * c + 4])
+    } else {
+        None
+    }
+}
+
+/// The same for a discard: L2 entry, count.
+pub fn of_discard(units: u64) -> Option<Vec<u64>> {
+    (units <= 2).then(|| (1..=units).collect())
+}
+
+/// The cuts below the allowance, then the allowance or the end, whichever
+/// comes first.
+pub fn within(mut cuts: Vec<u64>, allowance: u64) -> Vec<u64> {
+    if cuts.last().is_some_and(|&end| allowance < end) {
+        cuts.retain(|&cut| cut < allowance);
+        cuts.push(allowance);
+    }
+    cuts
+}
+
+/// Counts that a repair sets, all in one sector of the file.
+#[derive(Debug, PartialEq)]
+pub struct Batch {
+    pub sector: Range<usize>,
+    pub units: u64,
+}
+
+/// What a drive stores whole or not at all.
+pub const SECTOR: usize = 512;
+
+/// The units of a repair, sector by sector in the list's order, from the image
+/// before and after it.
+///
+/// A flush for each count would be slow where there are many. But a sector is
+/// stored whole or not at all, which every store of an entry relies on too. So
+/// with a flush after each sector a power cut still leaves just the first units
+/// of the list: those of the sectors before, and of this one all or none.
+pub fn of_repair(layout: &Layout, before: &[u8], after: &[u8]) -> Vec<Batch> {
+    let mut batches: Vec<Batch> = Vec::new();
+    for cluster in 0..layout.clusters {
+        if layout.count(before, cluster) == layout.count(after, cluster) {
+            continue;
+        }
+        let Some(at) = layout.count_at(before, cluster) else { continue };
+        let start = at / SECTOR * SECTOR;
+        match batches.last_mut() {
+            Some(batch) if batch.sector.start == start => batch.units += 1,
+            _ => batches.push(Batch { sector: start..start + SECTOR, units: 1 }),
+        }
+    }
+    batches
+}
+
+#[cfg(test)]
+mod tests {
+    use super::*;
+
+    #[test]
+    fn lists_of_writes() {
+        assert_eq!(of_write(512, 0), Some(vec![]));
+        assert_eq!(of_write(512, 5), Some(vec![5]));
+        assert_eq!(of_write(512, 512), Some(vec![512]));
+        assert_eq!(of_write(512, 513), Some(vec![512, 513]));
+        assert_eq!(of_write(512, 514), Some(vec![1, 513, 514]));
+        assert_eq!(of_write(512, 1028), Some(vec![1, 513, 514, 1026, 1027, 1028]));
+        for units in [515, 1027, 1029, u64::MAX] {
+            assert_eq!(of_write(512, units), None);
+        }
+    }
+
+    #[test]
+    fn lists_of_discards() {
+        assert_eq!(of_discard(0), Some(vec![]));
+        assert_eq!(of_discard(2), Some(vec![1, 2]));
+        assert_eq!(of_discard(3), None);
+    }
+
+    #[test]
+    fn allowances() {
+        let cuts = || vec![1, 513, 514];
+        assert_eq!(within(cuts(), u64::MAX), cuts());
+        assert_eq!(within(cuts(), 514), cuts());
+        assert_eq!(within(cuts(), 513), [1, 513]);
+        assert_eq!(within(cuts(), 512), [1, 512]);
+        assert_eq!(within(cuts(), 1), [1]);
+        assert_eq!(within(cuts(), 0), [0]);
+        assert_eq!(within(vec![], 0), []);
+    }
+}

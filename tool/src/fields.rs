@@ -1,0 +1,105 @@
+//! The header's fields as they stand, judged by nobody: for messages, and for
+//! the layout of an image that the core has accepted.
+
+/// The longest image that is accepted.
+pub const MAX_IMAGE: u64 = 67_108_864;
+pub const MAX_DISK: u64 = 1 << 40;
+pub const MAX_L1: u64 = 4096;
+/// The header_length that is accepted.
+pub const HEADER_LENGTH: u32 = 104;
+/// Bits 9 to 55 of an L1 or L2 entry: the place.
+pub const PLACE: u64 = 0x00FF_FFFF_FFFF_FE00;
+/// Bit 63: set in every good entry with a place.
+pub const USED: u64 = 1 << 63;
+/// Bit 62 of an L2 entry.
+pub const COMPRESSED: u64 = 1 << 62;
+
+#[derive(Clone, Copy, Debug, PartialEq)]
+pub struct Fields {
+    pub version: u32,
+    pub backing: u64,
+    pub cluster_bits: u32,
+    pub size: u64,
+    pub crypt: u32,
+    pub l1_size: u32,
+    pub l1_at: u64,
+    pub table_at: u64,
+    pub table_clusters: u32,
+    pub snapshots: u32,
+    /// Version 3, as are the next three; version 2 has 0, 0, 4 and 104.
+    pub incompatible: u64,
+    pub autoclear: u64,
+    pub order: u32,
+    pub header_length: u32,
+}
+
+pub fn be16(bytes: &[u8], at: usize) -> Option<u16> {
+    Some(u16::from_be_bytes(bytes.get(at..at.checked_add(2)?)?.try_into().ok()?))
+}
+
+pub fn be32(bytes: &[u8], at: usize) -> Option<u32> {
+    Some(u32::from_be_bytes(bytes.get(at..at.checked_add(4)?)?.try_into().ok()?))
+}
+
+pub fn be64(bytes: &[u8], at: usize) -> Option<u64> {
+    Some(u64::from_be_bytes(bytes.get(at..at.checked_add(8)?)?.try_into().ok()?))
+}
+
+impl Fields {
+    /// None if the bytes are too few for a header.
+    pub fn read(bytes: &[u8]) -> Option<Fields> {
+        let version = be32(bytes, 4)?;
+        let newer = |value: u64, older: u64| if version == 2 { older } else { value };
+        Some(Fields {
+            version,
+            backing: be64(bytes, 8)?,
+            cluster_bits: be32(bytes, 20)?,
+            size: be64(bytes, 24)?,
+            crypt: be32(bytes, 32)?,
+            l1_size: be32(bytes, 36)?,
+            l1_at: be64(bytes, 40)?,
+            table_at: be64(bytes, 48)?,
+            table_clusters: be32(bytes, 56)?,
+            snapshots: be32(bytes, 60)?,
+            incompatible: newer(be64(bytes, 72)?, 0),
+            autoclear: newer(be64(bytes, 88)?, 0),
+            order: newer(be32(bytes, 96)?.into(), 4) as u32,
+            header_length: newer(be32(bytes, 100)?.into(), HEADER_LENGTH.into()) as u32,
+        })
+    }
+
+    /// Cluster size, if cluster_bits gives a sensible one.
+    pub fn cluster(&self) -> Option<u64> {
+        (9..=21).contains(&self.cluster_bits).then(|| 1 << self.cluster_bits)
+    }
+}
+
+#[cfg(test)]
+mod tests {
+    use super::*;
+
+    #[test]
+    fn fields_of_both_versions() {
+        let mut bytes = vec![0xFF; 104];
+        bytes[4..8].copy_from_slice(&[0, 0, 0, 3]);
+        bytes[20..24].copy_from_slice(&[0, 0, 0, 9]);
+        bytes[96..104].copy_from_slice(&[0, 0, 0, 5, 0, 0, 0, 112]);
+        let three = Fields::read(&bytes).unwrap();
+        assert_eq!((three.order, three.header_length), (5, 112));
+        assert_eq!((three.incompatible, three.autoclear), (u64::MAX, u64::MAX));
+        assert_eq!(three.cluster(), Some(512));
+        bytes[7] = 2;
+        let two = Fields::read(&bytes).unwrap();
+        assert_eq!((two.order, two.header_length), (4, 104));
+        assert_eq!((two.incompatible, two.autoclear, two.size), (0, 0, u64::MAX));
+        assert_eq!(Fields::read(&bytes[..103]), None);
+    }
+
+    #[test]
+    fn numbers_at_the_end() {
+        let bytes = [1, 2, 3];
+        assert_eq!(be16(&bytes, 1), Some(0x0203));
+        assert_eq!((be16(&bytes, 2), be16(&bytes, usize::MAX)), (None, None));
+        assert_eq!((be32(&bytes, 0), be64(&bytes, usize::MAX - 7)), (None, None));
+    }
+}

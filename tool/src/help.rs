@@ -1,0 +1,107 @@
+//! Help texts.
+
+pub const HINT: &str = "Try 'qstore --help' or 'qstore COMMAND --help'.";
+
+pub const MAIN: &str = "\
+qstore: qcow2 images by the proved core
+
+  qstore info    IMAGE                  what the image is, its clusters, its verdict
+  qstore check   IMAGE                  sound, leaks or damaged
+  qstore repair  IMAGE                  give leaked clusters back
+  qstore map     IMAGE                  where each guest range lies
+  qstore read    IMAGE OFFSET LENGTH    guest bytes to standard output
+  qstore write   IMAGE OFFSET           standard input to guest bytes
+  qstore discard IMAGE OFFSET LENGTH    give whole guest clusters back
+
+  --json         answer as one JSON value on standard output
+  --help         this text, or that of a command
+  --version
+
+Numbers: 4096, 0x1000, or 4k, 1M, 1G, 1T (powers of 1024).
+
+Exit: 0 sound or finished, 1 failed, refused or stopped, 2 damaged, 3 leaks
+(3 only from check). A refusal has a number from 1 to 17 and says what to do.
+No machine may have the image open while it is changed.
+";
+
+pub const INFO: &str = "\
+qstore info IMAGE [--json]
+
+Version, cluster size, disk size, L1 entries, clusters in use, free and leaked,
+and the verdict of the check.
+
+Exit: 0, or 1 if the image is refused.
+";
+
+pub const CHECK: &str = "\
+qstore check IMAGE [--json]
+
+Counts the references of every cluster and compares them with the stored
+counts. The image is not changed.
+
+Exit: 0 sound, 1 failed or refused, 2 damaged, 3 leaks.
+";
+
+pub const REPAIR: &str = "\
+qstore repair IMAGE [--json] [--allowance U] [--force]
+
+Sets the count of each leaked cluster to its references, so that it is free
+again. Guest bytes do not change. A damaged image is refused (17) and left as
+it is.
+
+  --allowance U  stop after U units, as a power cut would
+  --force        change an image although autoclear_features is not 0;
+                 persistent bitmaps of qemu would be lost
+
+Exit: 0 sound afterwards, 1 failed, refused or stopped, 2 damaged.
+";
+
+pub const MAP: &str = "\
+qstore map IMAGE [--json]
+
+The guest disk as runs, fields parted by tabs: guest offset, length, kind and
+host offset. Kinds: host (data at the host offset), zeros, absent (not
+allocated, reads as zeros), refused (no way through the tables; the last field
+is then the number).
+
+Exit: 0, or 1 if the image or a run is refused.
+";
+
+pub const READ: &str = "\
+qstore read IMAGE OFFSET LENGTH [--json]
+
+Writes the guest bytes to standard output. Nothing is written unless the whole
+range can be read. With --json the bytes are given in hex.
+
+Exit: 0, or 1 if failed or refused.
+";
+
+pub const WRITE: &str = "\
+qstore write IMAGE OFFSET [--json] [--allowance U] [--force]
+
+Writes standard input to the guest bytes from OFFSET on, guest cluster by guest
+cluster. The whole request is tried in memory first: if any part is refused,
+the file is not changed. The changes reach the file in the order of the core's
+list, each kind of unit flushed before the next, so that a power cut leaves an
+image that is sound or leaks.
+
+  --allowance U  stop after U units, as a power cut would
+  --force        change an image although autoclear_features is not 0;
+                 persistent bitmaps of qemu would be wrong afterwards
+
+Exit: 0 finished, 1 failed, refused or stopped, 2 the image is damaged.
+";
+
+pub const DISCARD: &str = "\
+qstore discard IMAGE OFFSET LENGTH [--json] [--allowance U] [--force]
+
+Gives whole guest clusters back; they read as zeros afterwards. OFFSET has to be
+a multiple of the cluster size, and so has LENGTH unless the range ends with
+the disk. L2 tables are kept.
+
+  --allowance U  stop after U units, as a power cut would
+  --force        change an image although autoclear_features is not 0;
+                 persistent bitmaps of qemu would be wrong afterwards
+
+Exit: 0 finished, 1 failed, refused or stopped, 2 the image is damaged.
+";

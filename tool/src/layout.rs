@@ -1,0 +1,88 @@
+//! Where things stand in an image that the core has accepted. Entries may
+//! still be bad: what they name is looked up with care.
+
+use std::ops::Range;
+
+use crate::fields::{be16, be64, Fields, PLACE};
+
+#[derive(Clone, Copy)]
+pub struct Layout {
+    pub version: u32,
+    pub bits: u32,
+    pub size: u64,
+    pub l1_size: usize,
+    l1_at: usize,
+    table_at: usize,
+    /// Clusters of the image.
+    pub clusters: usize,
+}
+
+impl Layout {
+    /// None only for bytes that the core would have refused.
+    pub fn of(image: &[u8]) -> Option<Layout> {
+        let fields = Fields::read(image)?;
+        let cluster = fields.cluster()?;
+        Some(Layout {
+            version: fields.version,
+            bits: fields.cluster_bits,
+            size: fields.size,
+            l1_size: fields.l1_size as usize,
+            l1_at: usize::try_from(fields.l1_at).ok()?,
+            table_at: usize::try_from(fields.table_at).ok()?,
+            clusters: image.len() / cluster as usize,
+        })
+    }
+
+    pub fn cluster(&self) -> usize {
+        1 << self.bits
+    }
+
+    /// Guest clusters that begin below the disk's end.
+    pub fn guest_clusters(&self) -> u64 {
+        self.size.div_ceil(1 << self.bits)
+    }
+
+    /// Guest clusters below one L1 entry.
+    pub fn per_table(&self) -> u64 {
+        1 << (self.bits - 3)
+    }
+
+    pub fn l1_entry_at(&self, l1_index: u64) -> usize {
+        self.l1_at + 8 * l1_index as usize
+    }
+
+    /// The place of the L2 entry of a guest cluster, if its L1 entry names a
+    /// table.
+    pub fn l2_entry_at(&self, image: &[u8], guest: u64) -> Option<usize> {
+        let l1_entry = be64(image, self.l1_entry_at(guest / self.per_table()))?;
+        let table = (l1_entry & PLACE) as usize;
+        (table != 0).then_some(table + 8 * (guest % self.per_table()) as usize)
+    }
+
+    /// The cluster that an L1 or L2 entry names, as a range inside the image.
+    pub fn named(&self, image: &[u8], entry: u64) -> Option<Range<usize>> {
+        let at = (entry & PLACE) as usize;
+        (at != 0 && at + self.cluster() <= image.len()).then(|| at..at + self.cluster())
+    }
+
+    /// The place of a cluster's stored count.
+    pub fn count_at(&self, image: &[u8], cluster: usize) -> Option<usize> {
+        let per_block = self.cluster() / 2;
+        let block = be64(image, self.table_at + 8 * (cluster / per_block))?;
+        Some(block as usize + 2 * (cluster % per_block))
+    }
+
+    pub fn count(&self, image: &[u8], cluster: usize) -> Option<u16> {
+        be16(image, self.count_at(image, cluster)?)
+    }
+
+    /// Clusters with stored count 0.
+    pub fn free(&self, image: &[u8]) -> usize {
+        (0..self.clusters).filter(|&cluster| self.count(image, cluster) == Some(0)).count()
+    }
+
+    /// Clusters that the refcount blocks have counts for.
+    pub fn covered(&self) -> usize {
+        self.clusters.next_multiple_of(self.cluster() / 2)
+    }
+}

@@ -1,0 +1,24 @@
+//! `qstore`: the proved qcow2 core as a command over image files. The core
+//! works on the image in memory; this crate brings the changes to the file in
+//! the order of the core's list of units, so that a power cut leaves a file
+//! that the core has promised about.
+#![forbid(unsafe_code)]
+
+pub mod args;
+pub mod call;
+pub mod commands;
+pub mod cuts;
+pub mod disk;
+pub mod fields;
+pub mod findings;
+pub mod help;
+pub mod image_file;
+pub mod json;
+pub mod layout;
+pub mod number;
+pub mod ordered;
+pub mod places;
+pub mod progress;
+pub mod report;
+pub mod runs;
+pub mod sentences;

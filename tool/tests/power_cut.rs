@@ -1,0 +1,143 @@
+//! A drive that forgets: whatever of the stores since the last flush a power
+//! cut leaves, sector by sector, the image is sound or leaks, and every guest
+//! byte is as the plain disk has it.
+
+mod common;
+
+use std::fs;
+
+use common::drive::{put, sectors, torn, Drive, Random};
+use common::{bench_image, images};
+use qcow2_core::{check, read, translate, Found, Outcome, Verdict};
+use qstore::call::Call;
+use qstore::layout::Layout;
+use qstore::ordered::{Fault, Ordered};
+
+fn verdict(image: &[u8]) -> Verdict {
+    check(image, &mut vec![0; image.len() / 512])
+}
+
+fn guest(image: &[u8], size: u64) -> Vec<u8> {
+    let mut bytes = vec![0; size as usize];
+    read(image, 0, &mut bytes).expect("an accepted read");
+    bytes
+}
+
+/// One call on a drive; every state on the way, then the image afterwards.
+fn follow(image: &[u8], call: Call, random: &mut Random) -> Vec<u8> {
+    let layout = Layout::of(image).unwrap();
+    let mut ordered = Ordered::new(Drive::default(), layout, image.to_vec());
+    let outcome = ordered.call(&call, u64::MAX).expect("no fault");
+    let mut wanted = image.to_vec();
+    assert_eq!(call.run(&mut wanted, u64::MAX), outcome);
+    assert!(ordered.is_in_step() && ordered.image() == wanted);
+    let request = match call {
+        Call::Write { offset, data } => offset as usize..offset as usize + data.len(),
+        Call::Discard { cluster } => {
+            let start = (cluster as usize) << layout.bits;
+            start..(start + layout.cluster()).min(layout.size as usize)
+        }
+    };
+    let drive = ordered.into_disk();
+    assert!(drive.open.is_empty(), "something was not flushed");
+    let (old, new) = (guest(image, layout.size), guest(&wanted, layout.size));
+    let counts =
+        matches!(outcome, Outcome::Finished(units) if stores_a_count(&call, &layout, units));
+    let mut state = image.to_vec();
+    for stores in &drive.epochs {
+        let mut states = torn(&state, stores, random);
+        put(&mut state, &sectors(stores));
+        states.push(state.clone());
+        for state in states {
+            assert!(verdict(&state).is_usable(), "{:?}", verdict(&state));
+            let seen = guest(&state, layout.size);
+            for at in 0..seen.len() {
+                let allowed = seen[at] == old[at] || request.contains(&at) && seen[at] == new[at];
+                assert!(allowed, "guest byte {at}");
+            }
+            let (was, is) = (&old[request.clone()], &new[request.clone()]);
+            let part = &seen[request.clone()];
+            assert!(!counts || part == was || part == is, "half a request");
+        }
+    }
+    assert!(state == wanted);
+    wanted
+}
+
+fn stores_a_count(call: &Call, layout: &Layout, units: u64) -> bool {
+    match call {
+        Call::Write { .. } => units > layout.cluster() as u64 + 1,
+        Call::Discard { .. } => units == 2,
+    }
+}
+
+#[test]
+fn a_cut_anywhere_leaves_a_promised_image() {
+    let names = [
+        "01-v3-512-empty.qcow2",
+        "03-v3-512-data.qcow2",
+        "05-v3-1024-data.qcow2",
+        "09-v2-4096-data.qcow2",
+        "10-v3-512-zero.qcow2",
+        "12-v3-512-prealloc-metadata.qcow2",
+        "18-v3-4096-odd-size.qcow2",
+        "31-leak-two-v2.qcow2",
+    ];
+    let mut random = Random(1);
+    for name in names {
+        let mut image = fs::read(images().join(name)).unwrap();
+        let layout = Layout::of(&image).unwrap();
+        // Zero marks first: the clusters below some hold old bytes.
+        let offsets = (0..layout.size).step_by(layout.cluster());
+        let zeros: Vec<u64> = offsets.filter(|&at| translate(&image, at) == Found::Zeros).collect();
+        for offset in zeros {
+            let data = vec![7; 1 + random.below(300)];
+            let call = Call::Write { offset: offset + 100, data: &data };
+            if call.run(&mut image.clone(), 0) != Outcome::Refused(14) {
+                image = follow(&image, call, &mut random);
+            }
+        }
+        for _ in 0..24 {
+            let cluster = random.below(layout.guest_clusters() as usize) as u64;
+            image = follow(&image, Call::Discard { cluster }, &mut random);
+            let offset = random.below(layout.size as usize);
+            let room =
+                (layout.cluster() - offset % layout.cluster()).min(layout.size as usize - offset);
+            let data: Vec<u8> = (0..1 + random.below(room)).map(|k| (k % 255) as u8 + 1).collect();
+            let call = Call::Write { offset: offset as u64, data: &data };
+            if call.run(&mut image.clone(), 0) != Outcome::Refused(14) {
+                image = follow(&image, call, &mut random);
+            }
+        }
+    }
+}
+
+/// The stores of the first write on the bench image, each kind flushed.
+#[test]
+fn kinds_of_units_are_flushed_in_order() {
+    let image = bench_image();
+    let mut ordered = Ordered::new(Drive::default(), Layout::of(&image).unwrap(), image);
+    let call = Call::Write { offset: 33_285, data: b"hello" };
+    assert_eq!(ordered.call(&call, u64::MAX).unwrap(), Outcome::Finished(1028));
+    let epochs = ordered.into_disk().epochs;
+    let stores: Vec<usize> = epochs.iter().flatten().map(|store| store.0).collect();
+    // Table's count, count, data, L2 entry, L1 entry; the table is zero already.
+    assert_eq!(stores, [1024 + 9, 1024 + 11, 2565, 2056, 1544]);
+    assert!(epochs.iter().all(|stores| stores.len() == 1));
+}
+
+#[test]
+fn a_drive_that_fails_leaves_the_first_units() {
+    for left in 0..10 {
+        let image = bench_image();
+        let drive = Drive { left: Some(left), ..Drive::default() };
+        let mut ordered = Ordered::new(drive, Layout::of(&image).unwrap(), image.clone());
+        let call = Call::Write { offset: 33_285, data: b"hello" };
+        assert!(matches!(ordered.call(&call, u64::MAX), Err(Fault::Io(_))), "{left}");
+        let mut state = image;
+        let drive = ordered.into_disk();
+        drive.epochs.iter().for_each(|stores| put(&mut state, &sectors(stores)));
+        put(&mut state, &sectors(&drive.open));
+        assert!(verdict(&state).is_usable());
+    }
+}

@@ -1,0 +1,164 @@
+//! Refusals and failures: exit code, number, sentence, and the file as it was.
+
+mod common;
+
+use std::fs::{File, OpenOptions};
+
+use common::{bench_image, qstore, Answer, Copy};
+
+/// The answer of a line that must leave the file alone.
+fn unchanged(copy: &Copy, line: &str, input: &[u8]) -> Answer {
+    let before = copy.bytes();
+    let answer = copy.feed(line, input);
+    assert!(copy.bytes() == before, "{line}");
+    answer
+}
+
+fn refused(copy: &Copy, line: &str, input: &[u8], number: u32, sentence: &str) {
+    let answer = unchanged(copy, line, input);
+    assert_eq!(answer.exit, if number == 17 { 2 } else { 1 }, "{line}");
+    assert!(answer.error.contains(&format!("refused ({number}): ")), "{line}: {}", answer.error);
+    assert!(answer.error.contains(sentence), "{line}: {}", answer.error);
+    assert!(answer.text.is_empty() && answer.error.lines().count() >= 2);
+    let json = unchanged(copy, &format!("{line} --json"), input);
+    assert!(json.text.contains(&format!("\"refused\": {number}, \"reason\": \"")), "{}", json.text);
+    assert!(json.error.is_empty());
+}
+
+fn with(test: &str, change: &dyn Fn(&mut Vec<u8>)) -> Copy {
+    let mut image = bench_image();
+    change(&mut image);
+    Copy::with(&image, test)
+}
+
+#[test]
+fn headers() {
+    type Case<'a> = (u32, &'a str, &'a dyn Fn(&mut Vec<u8>));
+    let cases: [Case; 23] = [
+        (1, "511 bytes", &|image| image.truncate(511)),
+        (2, "a QED image", &|image| image[..4].copy_from_slice(b"QED\0")),
+        (3, "version is 4", &|image| image[7] = 4),
+        (4, "cluster_bits is 17", &|image| image[23] = 17),
+        (5, "`truncate -s 8704 ", &|image| image.push(0)),
+        (6, "backing file", &|image| image[15] = 1),
+        (6, "LUKS", &|image| image[35] = 2),
+        (6, "3 internal snapshot(s)", &|image| image[63] = 3),
+        (6, "counts have 1 bits", &|image| image[99] = 0),
+        (6, "`printf h | dd of=", &|image| image[103] = 112),
+        (6, "compat=0.10", &|image| image[103..105].copy_from_slice(&[112, 1])),
+        (7, "bit 0 (dirty", &|image| image[79] = 1),
+        (7, "bit 4 (extended L2 entries)", &|image| image[79] = 16),
+        (8, "reach 65536 bytes, the disk has 65537", &|image| image[31] = 1),
+        (8, "at most 2^40", &|image| image[24] = 1),
+        (8, "has 4097 entries", &|image| image[38..40].copy_from_slice(&[16, 1])),
+        (9, "has 0 entries, and 1 are needed", &|image| image[59] = 0),
+        (9, "runs past the file's end", &|image| image[42] = 1),
+        (9, "no multiple of 512", &|image| image[55] = 1),
+        (10, "entry 0 is 0", &|image| image[518..520].copy_from_slice(&[0, 0])),
+        (10, "entry 0 is 0x500, which is no cluster", &|image| image[518] = 5),
+        (10, "entry 0 is 0x2000, which is no cluster", &|image| image[518] = 32),
+        (10, "entry 1 names a block", &|image| image[526] = 4),
+    ];
+    for (number, sentence, change) in cases {
+        let copy = with("headers", change);
+        for line in ["info IMAGE", "check IMAGE", "map IMAGE", "read IMAGE 0 1", "repair IMAGE"] {
+            refused(&copy, line, &[], number, sentence);
+        }
+        refused(&copy, "write IMAGE 0", b"x", number, sentence);
+        refused(&copy, "discard IMAGE 0 512", &[], number, sentence);
+    }
+}
+
+#[test]
+fn requests() {
+    let copy = Copy::with(&bench_image(), "requests");
+    refused(&copy, "read IMAGE 65535 2", &[], 11, "From 65535 on there are 1 bytes");
+    refused(&copy, "read IMAGE 0xffffffffffffffff 2", &[], 11, "disk's end at 65536");
+    refused(&copy, "read IMAGE 0xffffffffffffffff 1", &[], 11, "disk's end at 65536");
+    refused(&copy, "write IMAGE 65530", &[1; 7], 11, "disk's end");
+    refused(&copy, "write IMAGE 65537", &[], 11, "disk's end");
+    refused(&copy, "discard IMAGE 64k 512", &[], 11, "disk's end");
+    refused(&copy, "write IMAGE 0", &[1; 6144], 14, "5632 of 6144 bytes would find room");
+    refused(&copy, "write IMAGE 0", &[1; 8193], 14, "truncate -s +");
+    let whole = unchanged(&copy, "discard IMAGE 100 1000", &[]);
+    assert_eq!(whole.exit, 1);
+    assert!(whole.error.contains("whole guest clusters of 512 bytes"));
+    assert!(whole.error.contains("512 bytes at 512"));
+    assert_eq!(copy.run("read IMAGE 64k 0").exit, 0);
+}
+
+#[test]
+fn damage() {
+    for (image, sentence) in [
+        ("40-short-data.qcow2", "cluster 5 (at 2560) is in use, but its stored count is 0"),
+        ("43-shared-data.qcow2", "cluster 5 (at 2560) has two references"),
+        ("51-entry-l2-bit63-no-place.qcow2", "bit 63 is set, but no place"),
+        ("52-entry-v2-bit0.qcow2", "bit 0 is set, which version 2"),
+    ] {
+        let copy = Copy::of(image, "damage");
+        refused(&copy, "repair IMAGE", &[], 17, sentence);
+        for line in ["write IMAGE 0", "discard IMAGE 0 512"] {
+            let answer = unchanged(&copy, line, b"x");
+            assert_eq!(answer.exit, 2, "{line}");
+            assert!(answer.error.contains("not changed: damaged"), "{}", answer.error);
+            assert!(answer.error.contains(sentence), "{}", answer.error);
+        }
+    }
+    let copy = Copy::of("51-entry-l2-bit63-no-place.qcow2", "entry");
+    refused(&copy, "read IMAGE 15360 1", &[], 12, "L2 entry 30 below L1 entry 0");
+    assert_eq!(copy.run("read IMAGE 0 15360").exit, 0);
+    let map = copy.run("map IMAGE");
+    assert!(map.exit == 1 && map.text.contains("\n15360\t512\trefused\t12\n"));
+    let compressed = with("compressed", &|image| {
+        _ = qcow2_core::write(image, 0, b"x", u64::MAX);
+        image[2048] |= 0x40;
+    });
+    refused(&compressed, "read IMAGE 0 1", &[], 13, "a compressed cluster");
+}
+
+#[test]
+fn files_that_are_too_long() {
+    let copy = Copy::with(&bench_image(), "long");
+    OpenOptions::new().write(true).open(&copy.path).unwrap().set_len(67_108_864 + 512).unwrap();
+    for line in ["info IMAGE", "read IMAGE 0 1", "write IMAGE 0"] {
+        let answer = copy.run(line);
+        assert_eq!(answer.exit, 1);
+        assert!(answer.error.contains("refused (5): the file has 67109376 bytes"));
+    }
+    OpenOptions::new().write(true).open(&copy.path).unwrap().set_len(67_108_864).unwrap();
+    assert!(copy.run("info IMAGE").error.contains("refused (9)"));
+}
+
+#[test]
+fn bitmaps_are_not_lost_by_accident() {
+    let copy = with("autoclear", &|image| image[95] = 1);
+    for line in ["write IMAGE 0", "discard IMAGE 0 512", "repair IMAGE"] {
+        let answer = unchanged(&copy, line, b"x");
+        assert_eq!(answer.exit, 1, "{line}");
+        assert!(answer.error.contains("persistent bitmaps"), "{}", answer.error);
+        assert_eq!(copy.feed(&format!("{line} --force"), b"x").exit, 0);
+    }
+}
+
+#[test]
+fn files_and_lines() {
+    let copy = Copy::with(&bench_image(), "lines");
+    let held = File::open(&copy.path).unwrap();
+    held.lock_shared().unwrap();
+    assert_eq!(copy.run("check IMAGE").exit, 0);
+    let answer = unchanged(&copy, "write IMAGE 0", b"x");
+    assert!(answer.exit == 1 && answer.error.contains("another qstore command"));
+    held.unlock().unwrap();
+    held.lock().unwrap();
+    assert_eq!(copy.run("check IMAGE").exit, 1);
+    for line in [&["check", "/nowhere/image"][..], &["check", "/"], &["check"], &["frob"], &[]] {
+        let answer = qstore(line, &[]);
+        assert!(answer.exit == 1 && answer.error.starts_with("qstore: "), "{line:?}");
+    }
+    for command in ["info", "check", "repair", "map", "read", "write", "discard"] {
+        let answer = qstore(&[command, "--help"], &[]);
+        assert!(answer.exit == 0 && answer.text.starts_with(&format!("qstore {command} IMAGE")));
+    }
+    assert!(qstore(&["--help"], &[]).text.contains("Exit: "));
+    assert!(qstore(&["--version"], &[]).text.starts_with("qstore "));
+}
