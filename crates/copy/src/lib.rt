@@ -1,4 +1,4 @@
-// Plain counted loops that move bytes: the compiler makes memset and memcpy of them.
+// Plain counted loops that move bytes: the compiler makes memset and a copy by vectors of them.
 ghost use mathlib.Core.Path.{_≡_};
 ghost use Prim.Native.Nat.{_+_, _≤_};
 ghost use lib.ListN.{length, take, replicate};

@@ -1,12 +1,12 @@
 -- Laws of tables whose references are counted entry by entry.
 -- Assumes nothing.
-use Prim.Native.Nat.{ℕ, _+_, _-_, _*_, _/_, _≤_, _<_}
+use Prim.Native.Nat.{ℕ, zero, suc, _+_, _-_, _*_, _/_, _≤_, _<_}
 use mathlib.Core.Path.{_≡_, refl, sym, _∙_}
 use mathlib.Core.Bool.{Bool, true, false, _&&_, and-assoc, and-true}
 use mathlib.Core.List.{List}
-use native.Mathlib.Nat.{add-sub-cancel-left}
+use native.Mathlib.Nat.{add-zero, add-sub-cancel-left}
 use native.Mathlib.Omega.{arith}
-use borrow.Author.Tests.{eq-eqb, ne-eqb}
+use borrow.Author.Tests.{eq-eqb, ne-eqb, eqb-true}
 use lib.ListN.{length, take, drop, length-drop}
 use lib.Seq.{length-take-le}
 use Rattle.choice.specs.Pick.{all}
@@ -18,7 +18,9 @@ use Rattle.qcow2_spec.specs.Entries.{place, goodPlace, goodL1, goodL2, compress
 use Rattle.qcow2_spec.specs.References.{named, l2Refs, l2Entries, tableRefs, l1Refs}
 use Rattle.qcow2_spec.specs.Check.{tableGood, entryGood}
 use Rattle.qcow2_check.specs.Known.{Walking, Passed, whole}
-use Rattle.endian.proofs.Entries.{entries-turn, entries-none}
+use Rattle.endian.proofs.Entries.{be64-drop, entries-turn, entries-none}
+use Rattle.blank.proofs.Zeros.{isZero, entries-zeros}
+use Rattle.qcow2_spec.proofs.Facts.{all-entries}
 
 -- what is to be counted from entry j of k on: entry j first; nothing at the end
 module _ (f : ℕ → List ℕ) (k j : ℕ) (t : List ℕ) where
@@ -48,6 +50,10 @@ module _ {f : ℕ → List ℕ} {p : ℕ → Bool} {es₀ s₀ : List ℕ} (k j 
     tested = sym (and-true good) ∙ (rw (entries-none k j t h) at (w .tested));
     counted = sym (refs-end f k j t h s) ∙ w .counted;
   }
+
+-- one walk after another
+pub walking-then : {f : ℕ → List ℕ} {p : ℕ → Bool} {es s es′ s′ es″ s″ : List ℕ} → Walking f p es s es′ s′ true → Walking f p es′ s′ es″ s″ true → Walking f p es s es″ s″ true
+walking-then w u = record { counted = u .counted ∙ w .counted; tested = u .tested ∙ w .tested }
 
 -- what a place names, and what an L2 entry refers to
 pub named-none : (C p : ℕ) (s : List ℕ) → p ≡ 0 → s ≡ bumpAll (named C p) s
@@ -109,3 +115,25 @@ module _ (s : List ℕ) (C e : ℕ) (hC : C ≡ clusterSize s) where
   pub row-some : goodL1 C (length s) e ≡ true → (place e ≡ 0 → ⊥) → (tableGood s (place e) ≡ entryGood s e) × (tableRefs s (place e) ≡ l1Refs s e)
   unfolding entryGood l1Refs
   row-some h z = let k : goodL1 (clusterSize s) (length s) e ≡ true = rw hC at h in (rw (k, ne-eqb (place e) 0 z), rw (k, ne-eqb (place e) 0 z))
+
+-- a walk passes over m entries of zeros from i on, of k in the table
+module _ (v C n k i : ℕ) (t s : List ℕ) where
+  over-zeros : (m : ℕ) → i + m ≤ k → ((x : ℕ) → x < m → be64 t (8 * (i + x)) ≡ 0)
+      → Walking (l2Refs v C n) (goodL2 v C n) (entries (k - i) (drop (8 * i) t)) s (entries (k - (i + m)) (drop (8 * (i + m)) t)) s true
+  over-zeros zero h z = rw add-zero walking-first
+  over-zeros (suc m) h z =
+      let w = over-zeros m (omega arith) (λ x l. z x (omega arith)) in
+      let e : i + suc m ≡ i + m + 1 = omega arith in
+      let b : be64 t (8 * (i + m)) ≡ 0 = z m (omega arith) in
+      rw e (walking-next k (i + m) t w (omega arith) (rw b (zero-refs v C n s)) (rw b (sym (zero-good v C n))))
+
+  pub zeros-passed : (m : ℕ) → i + m ≤ k → 8 * k ≤ length t → all isZero (take (8 * m) (drop (8 * i) t)) ≡ true
+      → Walking (l2Refs v C n) (goodL2 v C n) (entries (k - i) (drop (8 * i) t)) s (entries (k - (i + m)) (drop (8 * (i + m)) t)) s true
+  zeros-passed m h l z = over-zeros m h at-each
+    where
+      at-each : (x : ℕ) → x < m → be64 t (8 * (i + x)) ≡ 0
+      at-each x g =
+          let T : List ℕ = drop (8 * i) t in
+          let a : all isZero (entries m T) ≡ true = sym (entries-zeros m T (simp length-drop (omega arith))) ∙ z in
+          let d : 8 * i + 8 * x ≡ 8 * (i + x) = omega arith in
+          rw (be64-drop t (8 * i) (8 * x), d) at (eqb-true (be64 T (8 * x)) 0 (all-entries isZero m T a x g))

@@ -4,8 +4,8 @@ use Prim.Native.Nat.{ℕ, _+_, _-_, _*_, _/_, _^_, _≤_, _<_}
 use mathlib.Core.Path.{_≡_}
 use mathlib.Core.Bool.{Bool, true, false, not, _&&_}
 use mathlib.Core.List.{List}
-use lib.Dec.{eqb}
-use lib.ListN.{length, drop}
+use lib.Dec.{eqb, ltb}
+use lib.ListN.{length, getD, drop}
 use Rattle.choice.specs.Pick.{if_then_else_, all}
 use Rattle.endian.specs.Big.{be16, be64, part, entries}
 use Rattle.tally.specs.Tally.{bumpAll, joined, Counting}
@@ -48,6 +48,11 @@ whole t = entries (length t / 8) t
 abbrev pub onFrom : ℕ → List ℕ → List ℕ
 onFrom j t = entries (length t / 8 - j) (drop (8 * j) t)
 
+-- a walk over the entries i to j of an L2 table, all of which were good
+abbrev pub Plainly : (v bits n : ℕ) (t : List ℕ) (i : ℕ) (before : List ℕ) (j : ℕ) (after : List ℕ) → Type 0
+Plainly v bits n t i before j after =
+    Walking (l2Refs v (2 ^ bits) n) (goodL2 v (2 ^ bits) n) (onFrom i t) before (onFrom j t) after true
+
 -- a walk once an entry more is passed
 unfoldable pub walked : Progress → Bool → Progress
 walked w good = record { row = w .row + 1; good = w .good && good }
@@ -64,6 +69,14 @@ Judging s fs k c = Counting (short s fs) (over s fs) (length fs) k c
 -- count j of a block is 0
 unfoldable pub zeroAt : List ℕ → ℕ → Bool
 zeroAt block j = eqb (be16 block (2 * j)) 0
+
+-- count j of a block is not figure j
+unfoldable pub unlikeAt : (block figures : List ℕ) → ℕ → Bool
+unlikeAt block figures j = not (eqb (be16 block (2 * j)) (getD figures j 0))
+
+-- the low byte of count j of a block is below figure j
+unfoldable pub underAt : (block figures : List ℕ) → ℕ → Bool
+underAt block figures j = ltb (getD block (2 * j + 1) 0) (getD figures j 0)
 
 -- L1 entry i
 unfoldable pub rowAt : List ℕ → ℕ → ℕ

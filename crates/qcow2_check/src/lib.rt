@@ -11,8 +11,10 @@ use qcow2_spec::Geometry;
 use qcow2_spec::Verdict;
 
 mod blocks;
+mod compare;
 mod counts;
 mod fixed;
+mod groups;
 mod lookup;
 mod search;
 mod walk;
@@ -21,6 +23,12 @@ mod walk;
 pub struct Progress {
     pub row: usize,
     pub good: bool,
+}
+
+// A refcount block against the figures of its clusters: how many counts differ, and how many have a low byte below the figure.
+pub struct Compared {
+    pub unlike: u16,
+    pub under: u16,
 }
 
 // Counts all references in a scratch of one byte for each cluster, and says whether all entries are good.

@@ -8,8 +8,9 @@ ghost use Rattle.qcow2_spec.specs.Entries.{goodL2};
 ghost use Rattle.qcow2_spec.specs.References.{named, l2Refs, tableRefs, l1Refs, l1Entries};
 ghost use Rattle.qcow2_spec.specs.Check.{tableGood, entryGood};
 ghost use Rattle.qcow2_spec.specs.Opened.{Opened};
-ghost use Rattle.qcow2_check.specs.Known.{Room, Tried, Walking, Passed, whole, onFrom, walked, rowAt};
+ghost use Rattle.qcow2_check.specs.Known.{Room, Passed, whole, walked, rowAt};
 use crate::Progress;
+use crate::groups;
 use crate::lookup;
 use qcow2_spec::Geometry;
 
@@ -42,46 +43,6 @@ fn walk_entry(scratch: &mut [u8], e: u64, version: u32, bits: u32, n: u64) -> bo
     false
 }
 
-// Counts what an L2 entry refers to where it is zero or a place with bit 63 alone. Written over whole numbers, so that the entry is one load.
-fn plain_entry(scratch: &mut [u8], e: u64, version: u32, bits: u32, n: u64) -> bool
-    requires { ⌜ Room (now scratch) bits n ⌝ }
-    ensures { λ r. ⌜ Tried version (2 ^ bits) n e (now (scratch .entry)) (now (scratch .exit)) r ⌝ }
-{
-    if e == 0 {
-        return true;
-    }
-    if e <= 9223372036854775808 {
-        return false;
-    }
-    let x = e - 9223372036854775808;
-    if n <= x {
-        return false;
-    }
-    if power::rest(x, bits) != 0 {
-        return false;
-    }
-    tally::bump(scratch, power::quotient(x, bits) as usize);
-    true
-}
-
-// The same for the first entries of an L2 table, as long as they are so. Returns how many.
-fn walk_plain(table: &[u8], scratch: &mut [u8], version: u32, bits: u32, n: u64) -> usize
-    requires { ⌜ Room (now scratch) bits n ⌝ }
-    ensures { λ r. ⌜ (r ≤ length (now (table .entry)) / 8) × Walking (l2Refs version (2 ^ bits) n) (goodL2 version (2 ^ bits) n) (whole (now (table .entry))) (now (scratch .entry)) (onFrom r (now (table .entry))) (now (scratch .exit)) true ⌝ }
-{
-    let per = table.len() / 8;
-    let mut j = 0;
-    while j < per {
-        let e = endian::load64(table, 8 * j);
-        if plain_entry(scratch, e, version, bits, n) {
-            j += 1;
-        } else {
-            return j;
-        }
-    }
-    j
-}
-
 // Counts what the entries of an L2 table refer to, and says whether all are good.
 fn walk_table(table: &[u8], scratch: &mut [u8], version: u32, bits: u32, n: u64) -> bool
     requires { ⌜ Room (now scratch) bits n ⌝ }
@@ -89,7 +50,7 @@ fn walk_table(table: &[u8], scratch: &mut [u8], version: u32, bits: u32, n: u64)
 {
     let per = table.len() / 8;
     let mut good = true;
-    let mut j = walk_plain(table, scratch, version, bits, n);
+    let mut j = groups::walk_plain(table, scratch, version, bits, n);
     while j < per {
         let e = endian::load64(table, 8 * j);
         good = both(good, walk_entry(scratch, e, version, bits, n));

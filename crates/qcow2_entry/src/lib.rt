@@ -7,6 +7,7 @@ ghost use lib.ListN.{length};
 ghost use Rattle.endian.specs.Big.{be64};
 ghost use Rattle.qcow2_spec.specs.Entries.{place, goodPlace, goodL1, goodL2, compressed, zeroMark};
 ghost use Rattle.qcow2_spec.specs.Guest.{entryWay, entryGives};
+ghost use Rattle.qcow2_entry.specs.Plain.{plain};
 use qcow2_spec::Found;
 use qcow2_spec::Way;
 
@@ -88,6 +89,22 @@ pub fn good_l2(e: u64, version: u32, n: u64, bits: u32) -> bool
         return good_place(e, n, bits);
     }
     false
+}
+
+// Whether an entry is a place with bit 63 alone. Written over the whole number, so that the entry is one load and the first two tests
+// become one.
+pub fn is_plain(e: u64, n: u64, bits: u32) -> bool
+    requires { ⌜ (bits ≤ 16) × (2 ^ bits ≤ n) ⌝ }
+    ensures { λ r. ⌜ r ≡ plain (2 ^ bits) n e ⌝ }
+{
+    if e <= 9223372036854775808 {
+        return false;
+    }
+    let p = e - 9223372036854775808;
+    if p > n - power::power(bits) {
+        return false;
+    }
+    power::rest(p, bits) == 0
 }
 
 // The way that ends at entry i of an L2 table, which stands at an index of an image of n bytes.

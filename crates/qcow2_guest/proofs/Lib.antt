@@ -3,3 +3,5 @@ pub mod Steps
 pub mod Numbers
 pub mod Pieces
 pub mod Filling
+pub mod Rows
+pub mod Bytes

@@ -7,35 +7,13 @@ use mathlib.Core.Path.{_≡_, refl}
 use mathlib.Core.List.{List}
 use borrow.Author.Tests.{eq-eqb, ne-eqb, lt-ltb, le-ltb}
 use lib.ListN.{length}
-use Rattle.choice.specs.Pick.{unless}
 use Rattle.choice.proofs.Tests.{if-zero}
 use Rattle.qcow2_spec.specs.Header.{clusterSize, diskSize, l1Size, perTable}
-use Rattle.qcow2_spec.specs.Guest.{way, wayNumber, waysNumber, outside, touched, guestBytes, readNumber, readInto}
+use Rattle.qcow2_spec.specs.Guest.{waysNumber, outside, touched, guestBytes, readNumber, readInto}
 use Rattle.qcow2_spec.specs.Opened.{Opened}
 use Rattle.qcow2_spec.specs.declared.Geometry.{Geometry}
 use Rattle.qcow2_spec.proofs.Facts.{facts, c-pos, e-pos}
 use Rattle.qcow2_spec.proofs.Ways.{inside}
-
--- ---- the ways to k guest clusters, i of which are passed
-turn : (i k : ℕ) → i < k → k - i ≡ suc (k - (i + 1))
-turn i k h = omega arith
-
-nonzero : (n r : ℕ) → (n ≡ 0 → ⊥) → unless n (λ k. k) r ≡ n
-nonzero zero r h = absurd (h refl)
-nonzero (suc n) r h = refl
-
-module _ (s : List ℕ) (guest k i : ℕ) where
-  pub ways-stop : i < k → (wayNumber (way s (guest + i)) ≡ 0 → ⊥) → waysNumber s (guest + i) (k - i) ≡ wayNumber (way s (guest + i))
-  unfolding waysNumber
-  ways-stop h n = rw (turn i k h) (nonzero (wayNumber (way s (guest + i))) _ n)
-
-  pub ways-next : i < k → wayNumber (way s (guest + i)) ≡ 0 → waysNumber s (guest + i) (k - i) ≡ waysNumber s (guest + (i + 1)) (k - (i + 1))
-  unfolding waysNumber
-  ways-next h n = let e : suc (guest + i) ≡ guest + (i + 1) = omega arith in rw (turn i k h, n, e)
-
-  pub ways-end : k ≤ i → waysNumber s (guest + i) (k - i) ≡ 0
-  unfolding waysNumber
-  ways-end h = let e : k - i ≡ 0 = omega arith in rw e
 
 -- ---- the guest clusters that a range touches
 pub div-mono : (C x y : ℕ) → 0 < C → x ≤ y → x / C ≤ y / C

@@ -33,10 +33,10 @@ use Rattle.qcow2_spec.specs.Ready.{Ready}
 use Rattle.qcow2_guest.proofs.Ready.{reached, way-ready}
 
 -- ---- i bytes on in the same cluster of C bytes
-same-cluster : (C x i : ℕ) → x % C + i < C → (x + i) / C ≡ x / C
+pub same-cluster : (C x i : ℕ) → x % C + i < C → (x + i) / C ≡ x / C
 same-cluster C x i h = let a = div-add-mod' x C in div-eq-of-lt-le C (omega arith) (omega arith)
 
-same-rest : (C x i : ℕ) → x % C + i < C → (x + i) % C ≡ x % C + i
+pub same-rest : (C x i : ℕ) → x % C + i < C → (x + i) % C ≡ x % C + i
 same-rest C x i h =
     let e : (x + i) / C * C ≡ x / C * C = ap (λ (q : ℕ). q * C) (same-cluster C x i h) in
     omega (arith, div-add-mod' x C, div-add-mod' (x + i) C)
@@ -64,19 +64,17 @@ unfolding guestByte located
 byte-moved s x i h =
     rw (same-cluster (clusterSize s) x i h, same-rest (clusterSize s) x i h, way-moved (way s (x / clusterSize s)) (x % clusterSize s) i)
 
+-- a part l of the output that gets the bytes b
+pub written : (s : List ℕ) (x : ℕ) (l b : List ℕ) → length b ≡ length l → ((i : ℕ) → i < length l → guestByte s (x + i) ≡ getD b i 0) → splice l 0 b ≡ guestBytes s x (length l)
+unfolding guestBytes
+written s x l b n h = splice-whole l b n ∙ rw (← n) (sym (each-list (guestByte s) b x (λ i k. h i (omega arith))))
+
 -- what the arm `_` after `Host` is told
 abbrev Other : Found → Type 0
 Other f = OneOf (1 ∷ 2 ∷ 3 ∷ []) (tagOf the-type f)
 
 no-host : (h : ℕ) → Other (Host h) → ⊥
 no-host h t = ⊎-elim (λ e. omega arith) (λ u. ⊎-elim (λ e. omega arith) (λ e. omega arith) u) t
-
-pub other-byte : (s : List ℕ) (f : Found) → Other f → (i : ℕ) → foundByte s (moved f i) ≡ 0
-unfolding foundByte
-other-byte s (Host h) t i = absurd (no-host h t)
-other-byte s Zeros t i = refl
-other-byte s Absent t i = refl
-other-byte s (Refused k) t i = refl
 
 pub other-part : (s : List ℕ) (x : ℕ) (f : Found) → Other f → foundPart s x f ≡ []
 unfolding foundPart
@@ -119,10 +117,9 @@ module _ (g : Geometry) (s : List ℕ) (o : Opened g s) (x : ℕ) where
   -- a part l of the output that gets the bytes from x on
   module _ (l : List ℕ) (r : x % 2 ^ g .bits + length l ≤ 2 ^ g .bits) where
     filled : (b : List ℕ) → length b ≡ length l → ((i : ℕ) → i < length l → foundByte s (moved (located s x) i) ≡ getD b i 0) → splice l 0 b ≡ guestBytes s x (length l)
-    unfolding guestBytes
     filled b n h =
         let q : x % clusterSize s + length l ≤ clusterSize s = rw (o .is-cluster) at r in
-        splice-whole l b n ∙ rw (← n) (sym (each-list (guestByte s) b x (λ i k. byte-moved s x i (omega arith) ∙ h i (omega arith))))
+        written s x l b n (λ i k. byte-moved s x i (omega arith) ∙ h i k)
 
     pub copied : (h : ℕ) → x < diskSize s → located s x ≡ Host h → splice l 0 (take (length l) (part s h (length l))) ≡ guestBytes s x (length l)
     unfolding foundByte

@@ -1,6 +1,6 @@
 // From a guest offset to its place in the image, for an image whose header was accepted.
 ghost use mathlib.Core.Path.{_≡_};
-ghost use Prim.Native.Nat.{_+_, _/_, _%_, _<_, _≤_};
+ghost use Prim.Native.Nat.{_+_, _-_, _/_, _%_, _^_, _<_, _≤_, min};
 ghost use lib.ListN.{length};
 ghost use Rattle.qcow2_spec.specs.Header.{clusterSize, diskSize, perTable, l1Size};
 ghost use Rattle.qcow2_spec.specs.Guest.{l1Entry, l2Way, way, located, translate};
@@ -11,6 +11,15 @@ use qcow2_spec::Way;
 
 mod range;
 pub mod reading;
+
+// How much of what is left, from x on, comes before the next multiple of a power of two.
+pub(crate) fn piece(x: u64, left: usize, bits: u32) -> usize
+    requires { ⌜ bits ≤ 16 ⌝ }
+    ensures { λ r. ⌜ r ≡ min (2 ^ bits - x % 2 ^ bits) left ⌝ }
+{
+    let room = power::power(bits) - power::rest(x, bits);
+    power::lesser(room as usize, left)
+}
 
 // The L1 entry of a guest cluster.
 fn l1_entry(image: &[u8], g: Geometry, guest: u64) -> u64

@@ -1,47 +1,107 @@
 // The disk's bytes: copied to an output, or as a part of the image itself.
 ghost use mathlib.Core.Path.{_≡_};
-ghost use Prim.Native.Nat.{_+_, _-_, _%_, _^_, _<_, _≤_, min};
+ghost use Prim.Native.Nat.{_+_, _-_, _/_, _%_, _^_, _<_, _≤_, min};
 ghost use mathlib.Core.List.{_++_};
 ghost use lib.ListN.{length, take, drop};
-ghost use Rattle.qcow2_spec.specs.Header.{diskSize};
+ghost use Rattle.qcow2_spec.specs.Header.{diskSize, perTable, l1Size};
 ghost use Rattle.qcow2_spec.specs.Guest.{guestBytes, readNumber, readInto, inPlace};
 ghost use Rattle.qcow2_spec.specs.Opened.{Opened};
+ghost use Rattle.qcow2_guest.specs.Rows.{Below, tableOf, rowLeft};
 use qcow2_spec::Found;
 use qcow2_spec::Geometry;
 
-// Fills a part with the disk's bytes from x on, which all lie in one guest cluster. Only a host offset gives bytes other than 0.
-fn read_piece(image: &[u8], g: Geometry, x: u64, part: &mut [u8])
-    requires { ⌜ (Opened g (now image)) × ((x < diskSize (now image)) × (x % 2 ^ (g .bits) + length (now part) ≤ 2 ^ (g .bits))) ⌝ }
+// The host offset that a plain entry gives for guest offset x. By the cluster's number, so that the entry stays one number.
+fn host_at(e: u64, x: u64, bits: u32) -> usize
+    requires { ⌜ (bits ≤ 16) × ((9223372036854775808 < e) × ((e - 9223372036854775808 ≤ 67108864) × ((e - 9223372036854775808) % 2 ^ bits ≡ 0))) ⌝ }
+    ensures { λ r. ⌜ r ≡ e - 9223372036854775808 + x % 2 ^ bits ⌝ }
+{
+    let c = power::quotient(e - 9223372036854775808, bits);
+    (c * power::power(bits) + power::rest(x, bits)) as usize
+}
+
+// Fills a part with the disk's bytes from x on, which all lie in one guest cluster, whose L2 entry is in the table at t. Only a plain
+// entry gives bytes other than 0.
+fn read_piece(image: &[u8], g: Geometry, t: usize, x: u64, part: &mut [u8])
+    requires { ⌜ (Opened g (now image)) × ((x < diskSize (now image)) × ((Below (now image) t x 1) × (x % 2 ^ (g .bits) + length (now part) ≤ 2 ^ (g .bits)))) ⌝ }
     ensures { λ _. ⌜ now (part .exit) ≡ guestBytes (now (image .entry)) x (length (now (part .entry))) ⌝ }
 {
     let n = part.len();
-    let f = crate::locate(image, g, x);
-    match f {
-        Found::Host(h) => {
-            let at = h as usize;
-            copy::bytes(part, 0, &image[at..at + n], n);
-        }
-        _ => copy::zeros(part, 0, n),
+    let i = power::rest(power::quotient(x, g.bits), g.bits - 3) as usize;
+    let e = endian::load64(image, t + 8 * i);
+    if qcow2_entry::is_plain(e, image.len() as u64, g.bits) {
+        let at = host_at(e, x, g.bits);
+        copy::bytes(part, 0, &image[at..at + n], n);
+    } else {
+        copy::zeros(part, 0, n);
     }
 }
 
-// How many of the bytes that are left lie in the guest cluster of x.
-fn piece(x: u64, left: usize, bits: u32) -> usize
-    requires { ⌜ bits ≤ 16 ⌝ }
-    ensures { λ r. ⌜ r ≡ min (2 ^ bits - x % 2 ^ bits) left ⌝ }
+// Fills the next piece of the output and returns how much is filled then.
+fn next_piece(image: &[u8], g: Geometry, t: usize, x: u64, out: &mut [u8], done: usize) -> usize
+    requires { ⌜ (Opened g (now image)) × ((x + length (now out) ≤ diskSize (now image)) × ((Below (now image) t x (length (now out))) × (done < length (now out)))) ⌝ }
+    ensures { λ r. ⌜ ((done < r) × (r ≤ length (now (out .entry)))) × (now (out .exit) ≡ take done (now (out .entry)) ++ (guestBytes (now (image .entry)) (x + done) (r - done) ++ drop r (now (out .entry)))) ⌝ }
 {
-    let room = power::power(bits) - power::rest(x, bits);
+    let y = x + (done as u64);
+    let m = crate::piece(y, out.len() - done, g.bits);
+    read_piece(image, g, t, y, &mut out[done..done + m]);
+    done + m
+}
+
+// Fills the output with the disk's bytes from x on, whose L2 entries are all in the table at t.
+fn read_below(image: &[u8], g: Geometry, t: usize, x: u64, out: &mut [u8])
+    requires { ⌜ (Opened g (now image)) × ((x + length (now out) ≤ diskSize (now image)) × (Below (now image) t x (length (now out)))) ⌝ }
+    ensures { λ _. ⌜ now (out .exit) ≡ guestBytes (now (image .entry)) x (length (now (out .entry))) ⌝ }
+{
+    let mut done = 0;
+    while done < out.len() {
+        done = next_piece(image, g, t, x, out, done);
+    }
+}
+
+// The place of the L2 table of a guest cluster; 0 where it has none.
+fn table_of(image: &[u8], g: Geometry, guest: u64) -> usize
+    requires { ⌜ (Opened g (now image)) × (guest / perTable (now image) < l1Size (now image)) ⌝ }
+    ensures { λ r. ⌜ r ≡ tableOf (now (image .entry)) guest ⌝ }
+{
+    let e = crate::l1_entry(image, g, guest);
+    if qcow2_entry::good_l1(e, image.len() as u64, g.bits) {
+        return qcow2_entry::place_of(e) as usize;
+    }
+    0
+}
+
+// Fills a part with the disk's bytes from x on, which all have one L1 entry.
+fn read_row(image: &[u8], g: Geometry, x: u64, part: &mut [u8])
+    requires { ⌜ (Opened g (now image)) × ((x + length (now part) ≤ diskSize (now image)) × ((0 < length (now part)) × (length (now part) ≤ rowLeft (2 ^ (g .bits)) (2 ^ (g .bits - 3)) x))) ⌝ }
+    ensures { λ _. ⌜ now (part .exit) ≡ guestBytes (now (image .entry)) x (length (now (part .entry))) ⌝ }
+{
+    let n = part.len();
+    let t = table_of(image, g, power::quotient(x, g.bits));
+    if t == 0 {
+        copy::zeros(part, 0, n);
+    } else {
+        read_below(image, g, t, x, part);
+    }
+}
+
+// How many of the bytes that are left have the L1 entry of x.
+fn row_left(x: u64, left: usize, bits: u32) -> usize
+    requires { ⌜ (3 ≤ bits) × (bits ≤ 16) ⌝ }
+    ensures { λ r. ⌜ r ≡ min (rowLeft (2 ^ bits) (2 ^ (bits - 3)) x) left ⌝ }
+{
+    let entries = power::power(bits - 3) - power::rest(power::quotient(x, bits), bits - 3);
+    let room = entries * power::power(bits) - power::rest(x, bits);
     power::lesser(room as usize, left)
 }
 
-// Fills the next piece of the output and returns how much is filled then.
+// Fills what has the next L1 entry, and returns how much is filled then.
 fn read_next(image: &[u8], g: Geometry, x: u64, out: &mut [u8], done: usize) -> usize
     requires { ⌜ (Opened g (now image)) × ((x + length (now out) ≤ diskSize (now image)) × (done < length (now out))) ⌝ }
     ensures { λ r. ⌜ ((done < r) × (r ≤ length (now (out .entry)))) × (now (out .exit) ≡ take done (now (out .entry)) ++ (guestBytes (now (image .entry)) (x + done) (r - done) ++ drop r (now (out .entry)))) ⌝ }
 {
     let y = x + (done as u64);
-    let m = piece(y, out.len() - done, g.bits);
-    read_piece(image, g, y, &mut out[done..done + m]);
+    let m = row_left(y, out.len() - done, g.bits);
+    read_row(image, g, y, &mut out[done..done + m]);
     done + m
 }
 
@@ -78,7 +138,7 @@ pub fn part_in<'a>(image: &'a [u8], g: Geometry, x: u64) -> &'a [u8]
     match f {
         Found::Host(h) => {
             let at = h as usize;
-            let m = piece(x, (g.size - x) as usize, g.bits);
+            let m = crate::piece(x, (g.size - x) as usize, g.bits);
             &image[at..at + m]
         }
         _ => &image[..0],

@@ -1,20 +1,20 @@
 -- Laws of what the header gives, and of a table that is tested entry by entry.
 -- Assumes nothing.
 use Prim.Native.Nat.{ℕ, _+_, _-_, _*_, _/_, _%_, _^_, _≤_, _<_}
-use native.Mathlib.Nat.{div-add-mod', mul-left-comm, mul-le-mul-left}
+use native.Mathlib.Nat.{div-add-mod', mod-eq-of-lt, mul-left-comm, mul-le-mul-left}
 use native.Mathlib.Omega.{arith}
 use mathlib.Core.Path.{_≡_, refl, sym, ap, _∙_}
-use mathlib.Core.Bool.{Bool, true, false, not, _||_}
+use mathlib.Core.Bool.{Bool, true, false, not, _&&_, _||_, and-false}
 use mathlib.Core.List.{List}
-use borrow.Author.Tests.{ltb-false}
-use lib.Dec.{eqb}
+use borrow.Author.Tests.{eqb-true, ltb-true, ltb-false, eq-eqb, ne-eqb, le-leb, lt-leb}
+use lib.Dec.{eqb, ltb, leb}
 use lib.ListN.{length, take, drop}
 use lib.Pow.{pow-add}
 use Rattle.choice.specs.Pick.{all}
 use Rattle.choice.proofs.Tests.{or-false}
 use Rattle.endian.specs.Big.{be64, entries}
 use Rattle.endian.proofs.Entries.{part-rest, entries-turn, entries-none}
-use Rattle.qcow2_spec.specs.Header.{clusterSize, perTable, l1At, tableAt, blocks, table, tooBig, badTables, goodTable}
+use Rattle.qcow2_spec.specs.Header.{clusterSize, perTable, l1At, tableAt, blocks, table, tooBig, badTables, goodBlock, goodTable}
 use Rattle.qcow2_spec.specs.Opened.{geometry}
 use Rattle.qcow2_spec.specs.declared.Geometry.{Geometry}
 use Rattle.qcow2_header.specs.Chain.{oversize, misplaced, misplacedTables}
@@ -33,9 +33,30 @@ multiple e b l h =
     let u : e / 2 ^ b * 2 ^ b ≡ 512 * (e / 2 ^ b * D) = ap (λ (x : ℕ). e / 2 ^ b * x) (pow-split 9 b l) ∙ mul-left-comm (e / 2 ^ b) 512 D in
     omega (arith, div-add-mod' e (2 ^ b))
 
+-- an image of whole clusters has one
+pub whole-room : (n C : ℕ) → 0 < n → n % C ≡ 0 → C ≤ n
+whole-room n C h e = go (ltb n C) refl
+  where
+    go : (b : Bool) → ltb n C ≡ b → C ≤ n
+    go true t = absurd (omega (arith, mod-eq-of-lt {n = n} {m = C} (ltb-true _ _ t)))
+    go false t = ltb-false _ _ t
+
 -- the entries of a table of x clusters take no more than those clusters
 pub entries-fit : (x C : ℕ) → 8 * (x * (C / 8)) ≤ x * C
 entries-fit x C = rw (mul-left-comm 8 x (C / 8)) (mul-le-mul-left x (omega arith))
+
+-- ---- an entry that is not 0 and lies before the last cluster's end
+pub block-by : (e n b : ℕ) → 9 ≤ b → (e ≡ 0 → ⊥) → e + 2 ^ b ≤ n → eqb (e % 2 ^ b) 0 ≡ goodBlock (2 ^ b) n e
+unfolding goodBlock
+block-by e n b l z h = go (eqb (e % 2 ^ b) 0) refl
+  where
+    go : (t : Bool) → eqb (e % 2 ^ b) 0 ≡ t → eqb (e % 2 ^ b) 0 ≡ (not (eqb e 0) && eqb (e % 2 ^ b) 0 && eqb (e % 512) 0 && leb (e + 2 ^ b) n)
+    go true t = rw (t, ne-eqb e 0 z, eq-eqb (e % 512) 0 (multiple e b l (eqb-true _ _ t)), le-leb (e + 2 ^ b) n h)
+    go false t = rw (t, ne-eqb e 0 z)
+
+pub block-past : (e n C : ℕ) → (e ≡ 0 → ⊥) → n < e + C → false ≡ goodBlock C n e
+unfolding goodBlock
+block-past e n C z h = rw (ne-eqb e 0 z, lt-leb (e + C) n h, and-false)
 
 -- ---- a test of each entry: after an entry that passes, at one that fails, and at the end
 module _ (p : ℕ → Bool) (k j : ℕ) (t : List ℕ) {r : Bool} (left : all p (entries (k - j) (drop (8 * j) t)) ≡ r) where

@@ -68,12 +68,14 @@ pub record Known (s : List ℕ) : Type 0 where
 pub record Sized (s : List ℕ) : Type 0 where
   pub known : Known s
   pub short : length s ≤ 67108864
+  pub room : clusterSize s ≤ length s
 
 -- 1 to 7, with what the header gives
 pub record Read (g : Geometry) (s : List ℕ) : Type 0 where
   pub is : g ≡ geometry s
   pub low : 9 ≤ g .bits
   pub high : g .bits ≤ 16
+  pub room : 2 ^ g .bits ≤ length s
   pub few : g .rows < 4294967296
   pub brief : g .span < 4294967296
 

@@ -136,7 +136,7 @@ pub cover-law : (s : List ℕ) → 0 < perBlock s → clusters s ≤ blocks s * 
 unfolding blocks
 cover-law s h = up-le (clusters s) (perBlock s) h
 
-all-entries : (p : ℕ → Bool) (k : ℕ) (t : List ℕ) → all p (entries k t) ≡ true → (i : ℕ) → i < k → p (be64 t (8 * i)) ≡ true
+pub all-entries : (p : ℕ → Bool) (k : ℕ) (t : List ℕ) → all p (entries k t) ≡ true → (i : ℕ) → i < k → p (be64 t (8 * i)) ≡ true
 unfolding entries
 all-entries p zero t h i l = absurd (not-suc-le-zero l)
 all-entries p (suc k) t h zero l = and-true (p (be64 t 0)) _ h .0

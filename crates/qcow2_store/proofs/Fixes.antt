@@ -62,6 +62,12 @@ module _ (s : List ℕ) (at : ℕ) (fs : List ℕ) where
   fixes-same t zero h = refl
   fixes-same t (suc k) h = rw (fixes-same t k (λ d l. h d (omega arith)), fix-same s t (at + 2 * k) (getD fs k 0) (h k (omega arith)))
 
+  -- the next count, once units of those before it are stored
+  pub fix-after : (j k : ℕ) (t : List ℕ) → at + 2 * j + 2 ≤ length s → t ≡ applyAll (take k (fixes s at fs j)) s → fix t (at + 2 * j) (getD fs j 0) ≡ fix s (at + 2 * j) (getD fs j 0)
+  fix-after j k t h w =
+      let o = off-fixes j (at + 2 * j) 2 (length s) (omega arith) (omega arith) in
+      fix-same s t (at + 2 * j) (getD fs j 0) (rw w (be16-same _ _ _ _ (untouched (at + 2 * j) 2 (fixes s at fs j) s k o)))
+
   -- the first j counts are done: n units came before them
   pub record Run (n a j spent : ℕ) (t : List ℕ) : Type 0 where
     pub counted : spent ≡ n + length (fixes s at fs j)
@@ -75,9 +81,7 @@ module _ (s : List ℕ) (at : ℕ) (fs : List ℕ) where
       → r ≡ spent + length (fix t (at + 2 * j) v) → u ≡ applyAll (take (a - spent) (fix t (at + 2 * j) v)) t → Run n a (j + 1) r u
   unfolding fixes
   run-next n a j spent t v r u h e w f g =
-      let o = off-fixes j (at + 2 * j) 2 (length s) (omega arith) (omega arith) in
-      let q : be16 t (at + 2 * j) ≡ be16 s (at + 2 * j) = rw (w .image) (be16-same _ _ _ _ (untouched (at + 2 * j) 2 (fixes s at fs j) s (a - n) o)) in
-      let x : fix t (at + 2 * j) v ≡ fix s (at + 2 * j) (getD fs j 0) = rw e (fix-same s t (at + 2 * j) (getD fs j 0) q) in
+      let x : fix t (at + 2 * j) v ≡ fix s (at + 2 * j) (getD fs j 0) = rw e (fix-after j (a - n) t h (w .image)) in
       let b : a - spent ≡ a - n - length (fixes s at fs j) = rw (w .counted) (omega arith) in
       record {
         counted = rw (add-one, length-append, f, x, w .counted) (omega arith);

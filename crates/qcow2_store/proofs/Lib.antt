@@ -1,10 +1,12 @@
 pub mod Sizes
 pub mod Counts
+pub mod Pairs
 pub mod Slots
 pub mod Discards
 pub mod Writes
 pub mod Links
 pub mod Fixes
+pub mod Wholes
 pub mod Midway
 pub mod Alone
 pub mod Apart

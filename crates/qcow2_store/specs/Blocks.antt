@@ -1,10 +1,11 @@
 -- Refcount blocks: how one is found, and the counts in it.
 -- Assumes nothing.
-use Prim.Native.Nat.{ℕ, _+_, _-_, _*_, _/_, _%_, _^_, _≤_}
+use Prim.Native.Nat.{ℕ, zero, suc, _+_, _-_, _*_, _/_, _%_, _^_, _≤_}
 use mathlib.Core.Bool.{Bool}
 use mathlib.Core.List.{List}
+use lib.Bits.{bitAnd}
 use lib.Dec.{eqb}
-use lib.ListN.{length}
+use lib.ListN.{length, getD}
 use Rattle.endian.specs.Big.{be16, be64}
 use Rattle.qcow2_spec.specs.Header.{blockAt}
 use Rattle.qcow2_spec.specs.declared.Geometry.{Geometry}
@@ -24,6 +25,15 @@ pub record Reach (g : Geometry) (s : List ℕ) (k : ℕ) : Type 0 where
   pub low : 1 ≤ g .bits
   pub high : g .bits ≤ 16
   pub named : Named g s (k / 2 ^ (g .bits - 1))
+
+-- two bytes as a number, the low one first: a count with its bytes swapped
+unfoldable pub le16 : List ℕ → ℕ → ℕ
+le16 l at = getD l at 0 + getD l (at + 1) 0 * 256
+
+-- the bits that n counts of a block from index j on have in common, their bytes swapped
+unfoldable pub sharedBits : List ℕ → (j n : ℕ) → ℕ
+sharedBits block j zero = 65535
+sharedBits block j (suc n) = bitAnd (sharedBits block j n) (le16 block (2 * (j + n)))
 
 -- count k of a block is 0
 unfoldable pub zeroCount : List ℕ → ℕ → Bool

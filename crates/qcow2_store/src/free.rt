@@ -7,6 +7,7 @@ ghost use Rattle.endian.specs.Big.{be64};
 ghost use Rattle.qcow2_spec.specs.Counts.{countAt, freeAt, freeFrom};
 ghost use Rattle.qcow2_spec.specs.Opened.{Opened};
 ghost use Rattle.qcow2_store.specs.Blocks.{Named, Reach, countPlace, zeroCount, zeroIn};
+use crate::groups;
 use qcow2_spec::Geometry;
 
 // 2 to the power bits: the bytes of a cluster.
@@ -33,12 +34,13 @@ pub fn index_of(k: usize, bits: u32) -> usize
     power::rest(k as u64, bits - 1) as usize
 }
 
-// The place of refcount block b, by the refcount table as it stands.
+// The place of refcount block b, by the refcount table as it stands. The bound, which it never reaches, keeps the compiler from taking its load
+// apart into bytes and sums.
 pub fn block_at(image: &[u8], g: Geometry, b: usize) -> usize
     requires { ⌜ Named g (now image) b ⌝ }
     ensures { λ r. ⌜ (r ≡ be64 (now (image .entry)) (g .table + 8 * b)) × (r + 2 ^ g .bits ≤ length (now (image .entry))) ⌝ }
 {
-    endian::load64(image, g.table + 8 * b) as usize
+    power::lesser(endian::load64(image, g.table + 8 * b) as usize, image.len())
 }
 
 // The place of cluster k's count, by the refcount table as it stands. All later counts of its block are in the image too.
@@ -58,18 +60,33 @@ pub fn count_at(image: &[u8], g: Geometry, k: usize) -> usize
 }
 
 // The lowest count from index j on that is 0, in a block's counts below end; end where there is none.
-fn lowest_free(block: &[u8], j: usize, end: usize) -> usize
+fn lowest_zero(block: &[u8], j: usize, end: usize) -> usize
     requires { ⌜ (j ≤ end) × (2 * end ≤ length (now block)) ⌝ }
     ensures { λ r. ⌜ r ≡ first (zeroCount (now (block .entry))) j (end - j) ⌝ }
 {
     let mut k = j;
     while k < end {
-        if endian::load16(block, 2 * k) == 0 {
+        if groups::swapped(block, 2 * k) == 0 {
             return k;
         }
         k += 1;
     }
     k
+}
+
+// The same: 128 counts are passed over at a time where none is 0.
+fn lowest_free(block: &[u8], j: usize, end: usize) -> usize
+    requires { ⌜ (j ≤ end) × (2 * end ≤ length (now block)) ⌝ }
+    ensures { λ r. ⌜ r ≡ first (zeroCount (now (block .entry))) j (end - j) ⌝ }
+{
+    let mut k = j;
+    while 128 <= end - k {
+        if groups::some_zero(block, k, 128) {
+            return lowest_zero(block, k, end);
+        }
+        k += 128;
+    }
+    lowest_zero(block, k, end)
 }
 
 // The same in refcount block b.

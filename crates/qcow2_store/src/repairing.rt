@@ -12,16 +12,10 @@ ghost use Rattle.qcow2_spec.specs.Opened.{Opened};
 ghost use Rattle.qcow2_store.specs.Blocks.{Reach, countPlace};
 ghost use Rattle.qcow2_store.specs.Leaks.{Figured, Leaking, fix, fixes};
 use crate::free;
+use crate::groups;
 use qcow2_spec::Geometry;
 use qcow2_spec::Verdict;
 use units::Outcome;
-
-// A byte as a wider number.
-fn wide(x: u8) -> u16
-    ensures { λ r. ⌜ r ≡ x ⌝ }
-{
-    x as u16
-}
 
 // The count at a place is to be want. Returns the units of the repair so far, of which n came before; those past the allowance are only counted.
 fn repair_count(image: &mut [u8], at: usize, want: u16, n: usize, allowance: usize) -> usize
@@ -38,18 +32,37 @@ fn repair_count(image: &mut [u8], at: usize, want: u16, n: usize, allowance: usi
     n + 1
 }
 
-// The counts from a place on are to be refs.
-fn repair_run(image: &mut [u8], at: usize, refs: &[u8], n: usize, allowance: usize) -> usize
+// The counts from a place on are to be refs, one after another.
+fn repair_each(image: &mut [u8], at: usize, refs: &[u8], n: usize, allowance: usize) -> usize
     requires { ⌜ (at + 2 * length (now refs) ≤ length (now image)) × ((length (now image) ≤ 67108864) × (n + length (now refs) ≤ 67108864)) ⌝ }
     ensures { λ r. ⌜ (r ≡ n + length (fixes (now (image .entry)) at (now (refs .entry)) (length (now (refs .entry))))) × (now (image .exit) ≡ applyAll (take (allowance - n) (fixes (now (image .entry)) at (now (refs .entry)) (length (now (refs .entry))))) (now (image .entry))) ⌝ }
 {
     let mut spent = n;
     let mut j = 0;
     while j < refs.len() {
-        spent = repair_count(image, at + 2 * j, wide(refs[j]), spent, allowance);
+        spent = repair_count(image, at + 2 * j, groups::wide(refs[j]), spent, allowance);
         j += 1;
     }
     spent
+}
+
+// The counts from a place on are to be refs: all of them at once, unless the allowance ends among them.
+fn repair_run(image: &mut [u8], at: usize, refs: &[u8], n: usize, allowance: usize) -> usize
+    requires { ⌜ ((at + 2 * length (now refs) ≤ length (now image)) × ((length (now image) ≤ 67108864) × (n + length (now refs) ≤ 67108864))) × (length (now refs) ≤ 32768) ⌝ }
+    ensures { λ r. ⌜ (r ≡ n + length (fixes (now (image .entry)) at (now (refs .entry)) (length (now (refs .entry))))) × (now (image .exit) ≡ applyAll (take (allowance - n) (fixes (now (image .entry)) at (now (refs .entry)) (length (now (refs .entry))))) (now (image .entry))) ⌝ }
+{
+    let m = groups::differing(image, at, refs);
+    if m == 0 {
+        return n;
+    }
+    if allowance <= n {
+        return n + m;
+    }
+    if n + m <= allowance {
+        groups::set_counts(image, at, refs);
+        return n + m;
+    }
+    repair_each(image, at, refs, n, allowance)
 }
 
 // The counts of the clusters from i on, which stand in one block, are to be refs.

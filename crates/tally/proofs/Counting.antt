@@ -8,9 +8,10 @@ use native.Mathlib.Omega.{arith}
 use borrow.Author.Tests.{ltb-true, ltb-false, lt-ltb, le-ltb, eqb-true, eqb-false}
 use lib.Dec.{ltb, eqb}
 use Rattle.choice.specs.Pick.{if_then_else_, first, count}
-use Rattle.choice.proofs.Searches.{first-turn, count-turn}
+use Rattle.choice.proofs.Searches.{first-turn, count-turn, count-turns, count-most}
+use Rattle.choice.proofs.Runs.{search-miss}
+use Rattle.choice.proofs.Found.{none-first}
 use Rattle.tally.specs.Tally.{signOf, counted, Counting}
-use Rattle.tally.specs.declared.Sign.{Sign}
 use Rattle.tally.specs.declared.Sign.the-variants.{Short, Even, Over}
 use Rattle.tally.specs.declared.Counted.{Counted}
 
@@ -49,6 +50,16 @@ module _ (p q : ℕ → Bool) (N : ℕ) where
       more : (b : Bool) → c .over + (if b then 1 else 0) ≤ k + 1
       more true = omega (arith, d .few)
       more false = omega (arith, d .few)
+
+  -- m clusters at once, of which none is short
+  pub counting-part : (k m x : ℕ) (c : Counted) → k + m ≤ N → Counting p q N k c → ((j : ℕ) → k ≤ j → j < k + m → p j ≡ false) → x ≡ count q k m
+      → Counting p q N (k + m) (record { low = c .low; over = c .over + x })
+  counting-part k m x c h d e f = record {
+    lowest = rw (← search-miss p k m N h (omega (arith, none-first p k m e))) (d .lowest);
+    leaks = omega (arith, f, count-turns q k m N h, d .leaks);
+    small = d .small;
+    few = omega (arith, f, count-most q k m, d .few);
+  }
 
   pub counting-last : (c : Counted) → Counting p q N N c → (c .low ≡ first p 0 N) × (c .over ≡ count q 0 N)
   counting-last c d =

@@ -2,3 +2,4 @@ pub mod Laws
 pub mod Signs
 pub mod Counting
 pub mod Occurs
+pub mod Shared

@@ -1,8 +1,9 @@
 // Counting references in a scratch of one byte for each cluster: 0, 1, or 2 for two or more; and stored counts against them.
 ghost use mathlib.Core.Path.{_≡_};
-ghost use Prim.Native.Nat.{_+_, _≤_, _<_, min};
+ghost use Prim.Native.Nat.{_+_, _≤_, _<_, min, max};
+ghost use lib.Dec.{ltb};
 ghost use lib.ListN.{length, replicate};
-ghost use Rattle.choice.specs.Pick.{first};
+ghost use Rattle.choice.specs.Pick.{all, first};
 ghost use Rattle.tally.specs.Tally.{bumped, bumpAll, run, twice};
 
 pub mod against;
@@ -55,8 +56,27 @@ pub fn bump_run(scratch: &mut [u8], i: usize, k: usize)
     }
 }
 
-// The lowest cluster with two references or more; the length where there is none.
-pub fn lowest_shared(scratch: &[u8]) -> usize
+fn greater(a: u8, b: u8) -> u8
+    ensures { λ r. ⌜ r ≡ max a b ⌝ }
+{
+    if a < b { b } else { a }
+}
+
+// Whether no figure is above 1. The loop has one way out, so that it compiles to loads of 16 bytes.
+fn none_shared(scratch: &[u8]) -> bool
+    ensures { λ r. ⌜ r ≡ all (λ f. ltb f 2) (now (scratch .entry)) ⌝ }
+{
+    let mut most: u8 = 0;
+    let mut k = 0;
+    while k < scratch.len() {
+        most = greater(most, scratch[k]);
+        k += 1;
+    }
+    most < 2
+}
+
+// The first cluster with two references or more; the length where there is none.
+fn first_shared(scratch: &[u8]) -> usize
     ensures { λ r. ⌜ r ≡ first (twice (now (scratch .entry))) 0 (length (now (scratch .entry))) ⌝ }
 {
     let mut k = 0;
@@ -67,4 +87,14 @@ pub fn lowest_shared(scratch: &[u8]) -> usize
         k += 1;
     }
     k
+}
+
+// The lowest cluster with two references or more; the length where there is none. Mostly there is none.
+pub fn lowest_shared(scratch: &[u8]) -> usize
+    ensures { λ r. ⌜ r ≡ first (twice (now (scratch .entry))) 0 (length (now (scratch .entry))) ⌝ }
+{
+    if none_shared(scratch) {
+        return scratch.len();
+    }
+    first_shared(scratch)
 }

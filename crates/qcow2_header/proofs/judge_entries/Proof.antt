@@ -22,7 +22,7 @@ good-requires c κs =
     let g = c .before .before .before .before .args .g in
     let p = c .before .before .before .before .pre in
     rw (c .before .before .power .ensures .0, part-rest, length-drop)
-    ((p .read .low, p .read .high), (p .enough, omega (arith, entries-fit (g .span) (2 ^ g .bits), p .fits)))
+    (((p .read .low, p .read .high), p .read .room), (p .enough, omega (arith, entries-fit (g .span) (2 ^ g .bits), p .fits)))
 
 returns : tie.Need-returns
 unfolding from10

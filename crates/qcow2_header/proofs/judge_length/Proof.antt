@@ -1,5 +1,6 @@
 use borrow.Author.Needs.{needs}
-use borrow.Author.Tests.{ltb-false}
+use borrow.Author.Tests.{ltb-false, eqb-true, not-false}
+use native.Mathlib.Omega.{arith}
 use Prim.Native.Nat.{_%_}
 use mathlib.Core.Path.{_≡_}
 use mathlib.Core.Bool.{true, false, not}
@@ -9,6 +10,7 @@ use lib.ListN.{length}
 use Rattle.choice.proofs.Tests.{or-false}
 use Rattle.qcow2_spec.specs.Header.{clusterSize}
 use Rattle.qcow2_header.specs.Chain.{oddLength, from5}
+use Rattle.qcow2_header.proofs.Laws.{whole-room}
 use Rattle.qcow2_header.proofs.judge_length.Statement.{statement}
 use Rattle.qcow2_header.proofs.judge_length.Tie as tie
 
@@ -21,7 +23,13 @@ unfolding oddLength
 judge-extras-requires c κs =
     let s = now (c .before .before .before .args .image) in
     let e : oddLength s ≡ false = cc in
-    record { known = c .before .before .before .pre; short = ltb-false _ _ (or-false (not (eqb (length s % clusterSize s) 0)) _ e .1) }
+    let k = c .before .before .before .pre in
+    let t = or-false (not (eqb (length s % clusterSize s) 0)) _ e in
+    record {
+      known = k;
+      short = ltb-false _ _ (t .1);
+      room = whole-room (length s) (clusterSize s) (omega arith) (eqb-true _ _ (not-false _ (t .0)));
+    }
 
 returns-2 : tie.Need-returns-2
 unfolding from5

@@ -1,9 +1,8 @@
 use borrow.Author.Needs.{needs}
-use Prim.Native.Nat.{_^_, _-_, _*_, _≤_, _/_}
+use Prim.Native.Nat.{_^_, _-_, _≤_, _/_}
 use mathlib.Core.Path.{_≡_, refl, _∙_}
-use lib.ListN.{length, drop}
+use lib.ListN.{length}
 use denote.Ref.{now}
-use Rattle.endian.specs.Big.{entries}
 use Rattle.qcow2_spec.specs.Entries.{goodL2}
 use Rattle.qcow2_spec.specs.References.{l2Refs}
 use Rattle.qcow2_check.specs.Known.{Walking, onFrom}

@@ -16,6 +16,7 @@ returns c =
           rw (c .block-count .ensures, c .before .before .before .before .before .before .quotient .ensures .0, c .before .load324 .ensures, c .before .before .load643 .ensures, c .before .before .before .load642 .ensures, c .before .before .before .before .load323 .ensures, c .before .before .before .before .before .load64 .ensures, c .before .before .before .before .before .before .before .load322 .ensures, c .before .before .before .before .before .before .before .before .load32 .ensures);
       low = omega arith;
       high = omega arith;
+      room = rw (c .before .before .before .before .before .before .before .before .load32 .ensures) (c .before .before .before .before .before .before .before .before .before .before .pre .room);
       few = omega arith;
       brief = omega arith;
     }

@@ -2,7 +2,7 @@ use borrow.Author.Needs.{needs}
 use denote.Ref.{now}
 use Rattle.endian.proofs.Entries.{take-entries, drop-entries}
 use Rattle.qcow2_spec.specs.Header.{goodTable}
-use Rattle.qcow2_header.proofs.Zeros.{part-zeros}
+use Rattle.blank.proofs.Zeros.{part-zeros}
 use Rattle.qcow2_header.proofs.table.good.Statement.{statement}
 use Rattle.qcow2_header.proofs.table.good.Tie as tie
 
@@ -13,7 +13,7 @@ returns c =
     let t = now (a .table) in
     let p = c .before .before .before .before .before .pre .1 in
     rw (take-entries (a .blocks) (a .count) t (p .0), drop-entries (a .blocks) (a .count) t (p .0), ← c .before .before .before .all-named .ensures, c .before .before .if1 .taken, ← part-zeros (a .blocks) (a .count) t (p .0) (p .1))
-    (c .all-zeros .ensures)
+    (c .all-clear .ensures)
 
 returns-2 : tie.Need-returns-2
 unfolding goodTable

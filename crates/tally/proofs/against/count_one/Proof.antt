@@ -1,6 +1,5 @@
 use borrow.Author.Needs.{needs}
-use native.Mathlib.Omega.{arith}
-use mathlib.Core.Path.{_≡_, sym, _∙_}
+use mathlib.Core.Path.{sym, _∙_}
 use Rattle.tally.proofs.Counting.{counted-found, counted-short, counted-even, counted-over}
 use Rattle.tally.proofs.against.count_one.Statement.{statement}
 use Rattle.tally.proofs.against.count_one.Tie as tie

@@ -10,8 +10,8 @@ use mathlib.Core.List.{List, [], _∷_, _++_}
 use borrow.Author.Tests.{ne-eqb, eqb-true, eqb-false}
 use lib.Bits.{bitOr, or-zero-l, or-add-and, and-le-r}
 use lib.Dec.{eqb}
-use lib.ListN.{length, getD, take, drop, length-drop}
-use lib.Seq.{drop-cons, drop-length, take-add}
+use lib.ListN.{length, getD, take, drop, length-drop, take-append-drop}
+use lib.Seq.{drop-cons, drop-drop, drop-length, take-add}
 use Rattle.choice.specs.Pick.{all}
 use Rattle.endian.specs.Big.{be16, be32, be64, entries}
 
@@ -55,6 +55,17 @@ entry-zeros t h =
 all-append : (p : ℕ → Bool) (a b : List ℕ) → all p (a ++ b) ≡ (all p a && all p b)
 all-append p [] b = refl
 all-append p (x ∷ a) b = rw (all-append p a b) (sym (and-assoc (p x) (all p a) (all p b)))
+
+-- the m bytes at an index of a part, and what follows them
+module _ (t : List ℕ) (at m : ℕ) {r : Bool} (left : all isZero (drop at t) ≡ r) where
+  split : (all isZero (take m (drop at t)) && all isZero (drop (at + m) t)) ≡ r
+  split = rw (← drop-drop m at t) (sym (all-append isZero (take m (drop at t)) (drop m (drop at t))) ∙ rw take-append-drop left)
+
+  pub group-next : all isZero (take m (drop at t)) ≡ true → all isZero (drop (at + m) t) ≡ r
+  group-next e = rw e at split
+
+  pub group-stop : all isZero (take m (drop at t)) ≡ false → false ≡ r
+  group-stop e = rw e at split
 
 pub entries-zeros : (k : ℕ) (t : List ℕ) → 8 * k ≤ length t → all isZero (take (8 * k) t) ≡ all isZero (entries k t)
 unfolding entries

@@ -6,9 +6,9 @@ use mathlib.Core.Bool.{_&&_}
 use denote.Ref.{now}
 use lib.ListN.{length, drop}
 use Rattle.choice.specs.Pick.{all}
-use Rattle.qcow2_header.proofs.Zeros.{isZero, zeros-next, zeros-done}
-use Rattle.qcow2_header.proofs.table.all_zeros.Statement.{statement}
-use Rattle.qcow2_header.proofs.table.all_zeros.Tie as tie
+use Rattle.blank.proofs.Zeros.{isZero, zeros-next, zeros-done}
+use Rattle.blank.proofs.all_zeros.Statement.{statement}
+use Rattle.blank.proofs.all_zeros.Tie as tie
 
 abbrev Inv-loop : tie.InvT-loop
 Inv-loop part seen₀ k₀ seen k = (k ≤ length part) × ((isZero seen && all isZero (drop k part)) ≡ all isZero part)

@@ -1,0 +1,64 @@
+use borrow.Author.Needs.{needs}
+use native.Mathlib.Omega.{arith}
+use Prim.Native.Nat.{_-_, _≤_, _/_}
+use mathlib.Core.Path.{_≡_, refl, sym}
+use lib.ListN.{length}
+use denote.Ref.{now}
+use Rattle.qcow2_check.specs.Known.{Plainly}
+use Rattle.qcow2_check.proofs.Walks.{walking-first, walking-next}
+use Rattle.qcow2_check.proofs.groups.walk_each.Statement.{statement}
+use Rattle.qcow2_check.proofs.groups.walk_each.Tie as tie
+
+abbrev Inv-loop : tie.InvT-loop
+Inv-loop table scratch₀ i version bits n end j₀ scratch j =
+    ((i ≤ j) × (j ≤ end)) × (length scratch ≡ length scratch₀) × Plainly version bits n table i scratch₀ j scratch
+
+abbrev μ-loop : tie.MeasureT-loop
+μ-loop table scratch₀ i version bits n end j₀ scratch j = end - j
+
+loop-holds : tie.Need-loop-holds Inv-loop μ-loop
+loop-holds c = (search needs, refl, walking-first)
+
+plain-entry-requires : tie.Need-plain-entry-requires Inv-loop μ-loop
+plain-entry-requires c κs =
+    let t = c .before .before .before in
+    let p = t .before .before .before .pre .0 in
+    record { low = p .low; high = p .high; some = p .some; small = p .small; fits = rw (t .loop .inv .1) (p .fits) }
+
+loop-again : tie.Need-loop-again Inv-loop μ-loop
+loop-again c =
+    let w = c .before .before .before in
+    let l = w .before .before in
+    let t = l .before .before in
+    let r = w .plain-entry .ensures in
+    let b = t .before .before .before in
+    let T = now (b .args .table) in
+    (search needs, search needs, walking-next (length T / 8) (t .loop .j) T (t .loop .inv .2) (omega (arith, l .before .loop-test .taken, b .pre .1)) (rw (← l .load64 .ensures) (r .counted (c .if1 .taken))) (rw (← l .load64 .ensures) (sym (r .good (c .if1 .taken)))))
+
+returns : tie.Need-returns Inv-loop μ-loop
+returns c =
+    let w = c .before .before .before in
+    let t = w .before .before .before .before in
+    (search needs, rw (w .plain-entry .ensures .left (c .if1 .left)) (t .loop .inv .2))
+
+returns-2 : tie.Need-returns-2 Inv-loop μ-loop
+returns-2 c = (search needs, c .before .loop .inv .2)
+
+pub walk-each-spec : {M : Type 1} → statement M
+walk-each-spec =
+    tie.close
+    (tie.spec
+    Inv-loop
+    μ-loop
+    (search needs)
+    loop-holds
+    (search needs)
+    (search needs)
+    plain-entry-requires
+    (search needs)
+    (search needs)
+    loop-again
+    (search needs)
+    returns
+    (search needs)
+    returns-2)

@@ -1,0 +1,161 @@
+-- The disk's bytes one L2 table at a time.
+-- Assumes nothing.
+use Prim.Native.Nat.{ℕ, _+_, _-_, _*_, _/_, _%_, _^_, _≤_, _<_}
+use native.Mathlib.Nat.{add-zero, div-lt-iff-lt-mul, div-add-mod', mod-lt, add-mul, one-mul, mul-le-mul-right}
+use native.Mathlib.Omega.{arith}
+use mathlib.Core.Path.{_≡_, refl, sym, ap, _∙_}
+use mathlib.Core.Bool.{Bool, true, false}
+use mathlib.Core.List.{List}
+use borrow.Author.Tests.{eq-eqb, ne-eqb}
+use lib.ListN.{length, replicate, length-replicate, getD-replicate}
+use Rattle.endian.specs.Big.{be64, part, splice}
+use Rattle.qcow2_spec.specs.Header.{clusterSize, perTable}
+use Rattle.qcow2_spec.specs.Entries.{place, goodL1}
+use Rattle.qcow2_spec.specs.Guest.{l1Entry, l1EntryAt, entryWay, l2Way, way, wayGives, located, foundByte, guestByte, guestBytes}
+use Rattle.qcow2_spec.specs.Opened.{Opened}
+use Rattle.qcow2_spec.specs.declared.Geometry.{Geometry}
+use Rattle.qcow2_spec.specs.declared.Found.{Found}
+use Rattle.qcow2_spec.specs.declared.Found.the-variants.{Host, Zeros, Absent, Refused}
+use Rattle.qcow2_spec.proofs.Facts.{Facts, facts, c-pos, e-pos}
+use Rattle.qcow2_spec.proofs.Refers.{placed1}
+use Rattle.qcow2_spec.proofs.Numbers.{part8}
+use Rattle.qcow2_spec.specs.declared.Way.{Way}
+use Rattle.qcow2_entry.specs.Plain.{plain}
+use Rattle.qcow2_entry.proofs.Plain.{plain-way, plain-gives, other-gives}
+use Rattle.qcow2_guest.specs.Rows.{Below, tableOf, rowLeft}
+use Rattle.qcow2_guest.proofs.Numbers.{div-mono}
+use Rattle.qcow2_guest.proofs.Pieces.{moved, same-cluster, written}
+use Rattle.qcow2_guest.proofs.Steps.{table-entry, located-at}
+
+-- ---- a later part
+pub below-from : (s : List ℕ) (t x n a m : ℕ) → a + m ≤ n → Below s t x n → Below s t (x + a) m
+below-from s t x n a m h b = record { inside = b .inside; ways = λ i l. later i l }
+  where
+    later : (i : ℕ) → i < m → way s ((x + a + i) / clusterSize s) ≡ l2Way s t ((x + a + i) / clusterSize s % perTable s)
+    later i l = let e : x + a + i ≡ x + (a + i) = omega arith in rw e (b .ways (a + i) (omega arith))
+
+-- ---- a piece whose L2 entry e is in the table at t
+no-host : (s : List ℕ) (f : Found) → ((k : ℕ) → f ≡ Host k → ⊥) → (j : ℕ) → foundByte s (moved f j) ≡ 0
+unfolding foundByte
+no-host s (Host h) n j = absurd (n h refl)
+no-host s Zeros n j = refl
+no-host s Absent n j = refl
+no-host s (Refused k) n j = refl
+
+module _ (g : Geometry) (s : List ℕ) (o : Opened g s) (t x : ℕ) (b : Below s t x 1) (i e : ℕ) (p : i ≡ x / 2 ^ g .bits % 2 ^ (g .bits - 3)) where
+  inside : 8 * i + 8 ≤ clusterSize s
+  inside =
+      let l : i < perTable s = rw p (rw (o .is-per) (mod-lt _ (e-pos s (facts s (o .accepted))))) in
+      omega (arith, o .eight)
+
+  pub entry-in : t + 8 * i + 8 ≤ length s
+  entry-in = omega (arith, b .inside, inside)
+
+  module _ (q : e ≡ be64 s (t + 8 * i)) where
+    way-at : way s (x / 2 ^ g .bits) ≡ entryWay (g .version) (2 ^ g .bits) (length s) (t + 8 * i) e
+    way-at =
+        let v : way s (x / 2 ^ g .bits) ≡ l2Way s t (x / 2 ^ g .bits % perTable s) = rw (o .is-cluster) (rw add-zero at (b .ways 0 (omega arith))) in
+        let d : e ≡ be64 (part s t (2 ^ g .bits)) (8 * i) = q ∙ sym (part8 s t (2 ^ g .bits) (8 * i) (rw (o .is-cluster) inside)) in
+        v ∙ sym (rw d (table-entry g s o t (x / 2 ^ g .bits) i p))
+
+    found : wayGives (entryWay (g .version) (2 ^ g .bits) (length s) (t + 8 * i) e) (x % 2 ^ g .bits) ≡ located s x
+    found = located-at g s o x (x / 2 ^ g .bits) (x % 2 ^ g .bits) _ refl refl way-at
+
+    pub plain-found : plain (2 ^ g .bits) (length s) e ≡ true → located s x ≡ Host (e - 2 ^ 63 + x % 2 ^ g .bits)
+    unfolding wayGives
+    plain-found h =
+        sym found ∙ ap (λ (w : Way). wayGives w (x % 2 ^ g .bits)) (plain-way (g .bits) (length s) e (o .low) (o .short) h (g .version) (t + 8 * i))
+        ∙ plain-gives (g .bits) (length s) e (o .low) (o .short) h (x % 2 ^ g .bits)
+
+    pub other-found : plain (2 ^ g .bits) (length s) e ≡ false → (j : ℕ) → foundByte s (moved (located s x) j) ≡ 0
+    other-found h = no-host s (located s x) (λ k y. other-gives (g .version) (2 ^ g .bits) (length s) (t + 8 * i) e (x % 2 ^ g .bits) k h (found ∙ y))
+
+-- ---- bytes with one L1 entry
+-- x has its own L1 entry
+pub row-left-some : (C E x : ℕ) → 0 < C → 0 < E → 0 < rowLeft C E x
+unfolding rowLeft
+row-left-some C E x c e =
+    let l : x / C % E < E = mod-lt (x / C) e in
+    omega (arith, mod-lt x c, mul-le-mul-right C (one-left l), one-mul C)
+  where
+    one-left : {a : ℕ} → a < E → 1 ≤ E - a
+    one-left h = omega arith
+
+-- the guest cluster of a later byte
+later-cluster : (C E x i : ℕ) → 0 < C → 0 < E → i < rowLeft C E x → (x + i) / C / E ≡ x / C / E
+unfolding rowLeft
+later-cluster C E x i c e h =
+    let q : ℕ = x / C in
+    let y : ℕ = (x + i) / C in
+    let low : q ≤ y = div-mono C x (x + i) c (omega arith) in
+    let d : (q + (E - q % E)) * C ≡ q * C + (E - q % E) * C = add-mul q (E - q % E) C in
+    let high : y < q + (E - q % E) = div-lt-iff-lt-mul c .1 (omega (arith, div-add-mod' x C, d)) in
+    let r : q % E < E = mod-lt q e in
+    let k : q + (y - q) ≡ y = omega arith in
+    rw (← k) (same-cluster E q (y - q) (omega (arith, high, r, low)))
+
+-- the way by the place of the L2 table
+module _ (s : List ℕ) (f : Facts s) (guest : ℕ) where
+  abbrev e : ℕ
+  e = l1Entry s guest
+
+  table-way : (tableOf s guest ≡ 0 → ⊥) → (way s guest ≡ l2Way s (tableOf s guest) (guest % perTable s)) × (tableOf s guest + clusterSize s ≤ length s)
+  unfolding tableOf way
+  table-way z = go (goodL1 (clusterSize s) (length s) e) refl
+    where
+      go : (b : Bool) → goodL1 (clusterSize s) (length s) e ≡ b → (way s guest ≡ l2Way s (tableOf s guest) (guest % perTable s)) × (tableOf s guest + clusterSize s ≤ length s)
+      go true t =
+          let p : tableOf s guest ≡ place e = rw t in
+          (rw (t, ne-eqb (place e) 0 (λ y. z (p ∙ y))), rw t (placed1 s f e t .inside))
+      go false t = absurd (z (rw t))
+
+  table-none : tableOf s guest ≡ 0 → (x k : ℕ) → wayGives (way s guest) x ≡ Host k → ⊥
+  unfolding tableOf way wayGives
+  table-none z x k = go (goodL1 (clusterSize s) (length s) e) refl
+    where
+      go : (b : Bool) → goodL1 (clusterSize s) (length s) e ≡ b → wayGives (way s guest) x ≡ Host k → ⊥
+      go true t y = let p : place e ≡ 0 = rw t at z in let d : Absent ≡ Host k = rw (t, eq-eqb (place e) 0 p) at y in let w : _≡_ {A = ℕ} 0 1 = cc in omega arith
+      go false t y = let d : Refused 12 ≡ Host k = rw t at y in let w : _≡_ {A = ℕ} 0 1 = cc in omega arith
+
+no-byte : (s : List ℕ) (f : Found) → ((k : ℕ) → f ≡ Host k → ⊥) → foundByte s f ≡ 0
+unfolding foundByte
+no-byte s (Host h) n = absurd (n h refl)
+no-byte s Zeros n = refl
+no-byte s Absent n = refl
+no-byte s (Refused k) n = refl
+
+module _ (g : Geometry) (s : List ℕ) (o : Opened g s) (x n : ℕ) (h : n ≤ rowLeft (2 ^ g .bits) (2 ^ (g .bits - 3)) x) where
+  same-table : (i : ℕ) → i < n → tableOf s ((x + i) / clusterSize s) ≡ tableOf s (x / clusterSize s)
+  unfolding tableOf l1Entry l1EntryAt
+  same-table i l =
+      let f = facts s (o .accepted) in
+      let k : n ≤ rowLeft (clusterSize s) (perTable s) x = rw (o .is-cluster, o .is-per) at h in
+      rw (later-cluster (clusterSize s) (perTable s) x i (c-pos s f) (e-pos s f) (omega arith))
+
+  pub row-below : (tableOf s (x / 2 ^ g .bits) ≡ 0 → ⊥) → Below s (tableOf s (x / 2 ^ g .bits)) x n
+  row-below z =
+      let f = facts s (o .accepted) in
+      let y : tableOf s (x / clusterSize s) ≡ 0 → ⊥ = rw (o .is-cluster) at z in
+      rw (o .is-cluster) (record {
+        inside = table-way s f (x / clusterSize s) y .1;
+        ways = λ i l. rw (same-table i l) at (table-way s f ((x + i) / clusterSize s) (λ u. y (sym (same-table i l) ∙ u)) .0);
+      })
+
+  pub row-blank : tableOf s (x / 2 ^ g .bits) ≡ 0 → (l : List ℕ) → length l ≡ n → splice l 0 (replicate (length l) 0) ≡ guestBytes s x (length l)
+  unfolding guestByte located
+  row-blank z l e =
+      let y : tableOf s (x / clusterSize s) ≡ 0 = rw (o .is-cluster) at z in
+      written s x l (replicate (length l) 0) (length-replicate (length l) 0) (λ i k. byte y i (omega arith) ∙ sym (getD-replicate (length l) i 0 0 k))
+    where
+      byte : tableOf s (x / clusterSize s) ≡ 0 → (i : ℕ) → i < n → guestByte s (x + i) ≡ 0
+      byte y i k = no-byte s (located s (x + i)) (table-none s (facts s (o .accepted)) ((x + i) / clusterSize s) (same-table i k ∙ y) ((x + i) % clusterSize s))
+
+-- ---- the place of the L2 table, by the test of the L1 entry e
+module _ (g : Geometry) (s : List ℕ) (o : Opened g s) (guest e : ℕ) (q : e ≡ l1Entry s guest) where
+  pub table-good : goodL1 (2 ^ g .bits) (length s) e ≡ true → place e ≡ tableOf s guest
+  unfolding tableOf
+  table-good h = let t : goodL1 (clusterSize s) (length s) (l1Entry s guest) ≡ true = rw (← o .is-cluster, ← q) h in rw (t, q)
+
+  pub table-bad : goodL1 (2 ^ g .bits) (length s) e ≡ false → 0 ≡ tableOf s guest
+  unfolding tableOf
+  table-bad h = let t : goodL1 (clusterSize s) (length s) (l1Entry s guest) ≡ false = rw (← o .is-cluster, ← q) h in rw t

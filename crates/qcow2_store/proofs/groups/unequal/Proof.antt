@@ -1,0 +1,13 @@
+use native.Mathlib.Omega.{arith}
+use borrow.Author.Tests.{eq-eqb, ne-eqb}
+use Rattle.qcow2_store.proofs.groups.unequal.Statement.{statement}
+use Rattle.qcow2_store.proofs.groups.unequal.Tie as tie
+
+returns : tie.Need-returns
+returns c = (rw (eq-eqb _ _ (c .if1 .taken)), omega arith)
+
+returns-2 : tie.Need-returns-2
+returns-2 c = (rw (ne-eqb _ _ (c .if1 .left)), omega arith)
+
+pub unequal-spec : {M : Type 1} → statement M
+unequal-spec = tie.close (tie.spec returns returns-2)

@@ -1,0 +1,122 @@
+// Counts of a refcount block tested and stored many at once: loops without an early exit, which the compiler makes vector code of.
+ghost use mathlib.Core.Path.{_≡_};
+ghost use Prim.Native.Nat.{_+_, _*_, _≤_, min};
+ghost use lib.Dec.{eqb, ltb};
+ghost use lib.ListN.{length};
+ghost use Rattle.choice.specs.Pick.{if_then_else_, first};
+ghost use Rattle.units.specs.Units.{applyAll};
+ghost use Rattle.qcow2_store.specs.Blocks.{le16, sharedBits, zeroCount};
+ghost use Rattle.qcow2_store.specs.Leaks.{fix, fixes};
+
+// A byte as a wider number.
+pub fn wide(x: u8) -> u16
+    ensures { λ r. ⌜ (r ≡ x) × (r ≤ 255) ⌝ }
+{
+    x as u16
+}
+
+// The lesser of two numbers.
+fn lesser(a: u16, b: u16) -> u16
+    ensures { λ r. ⌜ r ≡ min a b ⌝ }
+{
+    if a < b { a } else { b }
+}
+
+// Two bytes as a number, the low one first.
+fn pair(p: &[u8]) -> u16
+    requires { ⌜ 2 ≤ length (now p) ⌝ }
+    ensures { λ r. ⌜ r ≡ le16 (now (p .entry)) 0 ⌝ }
+{
+    wide(p[0]) + wide(p[1]) * 256
+}
+
+// The count at a place with its bytes swapped. The compiler makes one load of two bytes that are lent as a part and joined low byte first.
+pub fn swapped(s: &[u8], at: usize) -> u16
+    requires { ⌜ at + 2 ≤ length (now s) ⌝ }
+    ensures { λ r. ⌜ r ≡ le16 (now (s .entry)) at ⌝ }
+{
+    pair(&s[at..at + 2])
+}
+
+// The bits that n counts of a block from index j on have in common, their bytes swapped.
+fn shared_bits(block: &[u8], j: usize, n: usize) -> u16
+    requires { ⌜ 2 * (j + n) ≤ length (now block) ⌝ }
+    ensures { λ r. ⌜ r ≡ sharedBits (now (block .entry)) j n ⌝ }
+{
+    let mut bits = 65535;
+    let mut i = 0;
+    while i < n {
+        bits = bits & swapped(block, 2 * (j + i));
+        i += 1;
+    }
+    bits
+}
+
+// Whether the least of n counts of a block from index j on is 0.
+fn least_zero(block: &[u8], j: usize, n: usize) -> bool
+    requires { ⌜ 2 * (j + n) ≤ length (now block) ⌝ }
+    ensures { λ r. ⌜ r ≡ ltb (first (zeroCount (now (block .entry))) j n) (j + n) ⌝ }
+{
+    let mut least = 65535;
+    let mut i = 0;
+    while i < n {
+        least = lesser(least, swapped(block, 2 * (j + i)));
+        i += 1;
+    }
+    least == 0
+}
+
+// Whether one of n counts of a block from index j on is 0. Counts that are all 1 have a bit in common, which is the quicker test.
+pub fn some_zero(block: &[u8], j: usize, n: usize) -> bool
+    requires { ⌜ 2 * (j + n) ≤ length (now block) ⌝ }
+    ensures { λ r. ⌜ r ≡ ltb (first (zeroCount (now (block .entry))) j n) (j + n) ⌝ }
+{
+    if shared_bits(block, j, n) != 0 {
+        return false;
+    }
+    least_zero(block, j, n)
+}
+
+// 1 for two numbers that differ.
+fn unequal(a: u16, b: u16) -> u16
+    ensures { λ r. ⌜ (r ≡ (if eqb a b then 0 else 1)) × (r ≤ 1) ⌝ }
+{
+    if a == b {
+        return 0;
+    }
+    1
+}
+
+// How many of the counts from a place on differ from refs.
+pub fn differing(s: &[u8], at: usize, refs: &[u8]) -> usize
+    requires { ⌜ (at + 2 * length (now refs) ≤ length (now s)) × (length (now refs) ≤ 32768) ⌝ }
+    ensures { λ r. ⌜ (r ≡ length (fixes (now (s .entry)) at (now (refs .entry)) (length (now (refs .entry))))) × (r ≤ length (now (refs .entry))) ⌝ }
+{
+    let mut n = 0;
+    let mut j = 0;
+    while j < refs.len() {
+        n += unequal(swapped(s, at + 2 * j), wide(refs[j]) * 256);
+        j += 1;
+    }
+    n as usize
+}
+
+// The count at a place becomes want, which it may be already.
+fn set_count(image: &mut [u8], at: usize, want: u8)
+    requires { ⌜ at + 2 ≤ length (now image) ⌝ }
+    ensures { λ _. ⌜ now (image .exit) ≡ applyAll (fix (now (image .entry)) at want) (now (image .entry)) ⌝ }
+{
+    endian::store16(image, at, wide(want));
+}
+
+// The counts from a place on become refs.
+pub fn set_counts(image: &mut [u8], at: usize, refs: &[u8])
+    requires { ⌜ at + 2 * length (now refs) ≤ length (now image) ⌝ }
+    ensures { λ _. ⌜ now (image .exit) ≡ applyAll (fixes (now (image .entry)) at (now (refs .entry)) (length (now (refs .entry)))) (now (image .entry)) ⌝ }
+{
+    let mut j = 0;
+    while j < refs.len() {
+        set_count(image, at + 2 * j, refs[j]);
+        j += 1;
+    }
+}
