@@ -48,7 +48,7 @@ def made():
     bad_l1 = bench()
     entry(bad_l1, 1544, 1 << 63 | 4 * C | 1)
     bad_l2 = table_at(4, [(5, 1 << 62)])
-    past_end = table_at(4, [(60, data)], size=40000)
+    past_end = table_at(4, [(60, data)], size=39936)
     count(past_end, 5, 1)
     empty_l1 = bench(size=0, rows=0, l1=8192)
     count(empty_l1, 3, 0)
@@ -69,9 +69,10 @@ def made():
         '09-table-past': (bench(table=7680, span=2), 'refused 9'), '09-no-table': (bench(span=0), 'refused 9'),
         '10-block-gone': (gone, 'refused 10'), '10-late-entry': (late, 'refused 10'), 'long': (bytes(65537), 'refused long'),
         'sound-bench': (bench(), f'{fits} | clusters 4 12 0 | verdict sound'),
-        'sound-odd-size': (bench(size=65535), 'image 3 512 16 65535 2 | clusters 4 12 0 | verdict sound'),
+        '18-odd-size': (bench(size=65535), 'refused 18'), '18-one-more': (bench(size=65537, rows=3), 'refused 18'), '08-before-18': (bench(size=65537, rows=2), 'refused 8'),
+        '18-before-9': (bench(size=65535, l1=1537), 'refused 18'),
         'sound-l1-empty-at-n': (empty_l1, 'image 3 512 16 0 0 | clusters 3 13 0 | verdict sound'),
-        'sound-beyond-the-end': (past_end, 'image 3 512 16 40000 2 | clusters 6 10 0 | verdict sound'),
+        'sound-beyond-the-end': (past_end, 'image 3 512 16 39936 2 | clusters 6 10 0 | verdict sound'),
         'leaks': (leaks, f'{fits} | clusters 6 10 2 | verdict leaks 2'),
         'damaged-l1-entry': (bad_l1, f'{fits} | clusters 4 12 - | verdict damaged entry 1 -'),
         'damaged-l2-entry': (bad_l2, f'{fits} | clusters 5 11 - | verdict damaged entry 1 5'),

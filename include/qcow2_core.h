@@ -33,8 +33,9 @@
  *   0 is done: finished, sound, or a host offset, as the call has it.
  *   1 to 999 is a refusal: no lent byte was changed, but for QCOW2_DAMAGED_IMAGE
  *   (17), which fills the scratch as the check does. 1001 and up are the other
- *   answers. The lowest number from 1 to 10 that applies comes first, then 15
- *   or 11, then 12 and 13 on the way through the tables, then 14 or 16.
+ *   answers. The header's numbers are tried first, in the order 1 to 8, 18, 9,
+ *   10, then 15 or 11, then 12 and 13 on the way through the tables, then 14 or
+ *   16.
  */
 #ifndef QCOW2_CORE_H
 #define QCOW2_CORE_H
@@ -69,6 +70,8 @@ extern "C" {
 /* The disk is above 2^40 bytes, the L1 table has more than 4,096 entries, or
  * they do not reach to the end of the disk. */
 #define QCOW2_WRONG_SIZE 8u
+/* The disk is not a whole number of sectors: size is no multiple of 512. */
+#define QCOW2_PARTIAL_SECTOR 18u
 /* The L1 table or the refcount table does not start at a cluster or runs past
  * the image, or the refcount table has too few entries for all clusters. */
 #define QCOW2_WRONG_TABLE 9u
@@ -117,15 +120,15 @@ extern "C" {
 
 /*
  * Where one guest offset lies. QCOW2_DONE gives its place in the image in *host;
- * QCOW2_ZEROS and QCOW2_ABSENT say that there is none; else 1 to 13. An offset
- * at or past size is 11.
+ * QCOW2_ZEROS and QCOW2_ABSENT say that there is none; else 1 to 13 or 18. An
+ * offset at or past size is 11.
  */
 uint32_t qcow2_translate(const uint8_t *image, size_t n, uint64_t offset, uint64_t *host);
 
 /*
  * Reads out_len guest bytes from offset on. QCOW2_DONE: out is filled whole.
- * Else 1 to 13, and out is as it was. Length 0 at or before the disk's end is
- * done.
+ * Else 1 to 13 or 18, and out is as it was. Length 0 at or before the disk's
+ * end is done.
  */
 uint32_t qcow2_read(const uint8_t *image, size_t n, uint64_t offset, uint8_t *out, size_t out_len);
 
@@ -148,7 +151,7 @@ size_t qcow2_lookup(const uint8_t *image, size_t n, uint64_t offset);
  */
 
 /*
- * Writes len bytes at offset, inside one guest cluster. Else 1 to 14.
+ * Writes len bytes at offset, inside one guest cluster. Else 1 to 14 or 18.
  * The lists: data in place, len units; a zero mark with a place, the cluster
  * and the entry, C + 1; a new cluster, its count, the cluster and the entry,
  * C + 2; a new L2 table too, 2C + 4.
@@ -157,8 +160,8 @@ uint32_t qcow2_write(uint8_t *image, size_t n, uint64_t offset, const uint8_t *d
                      uint64_t allowance, uint64_t *units);
 
 /*
- * Discards the guest cluster of this number (guest offset / C). Else 1 to 13
- * or 16. The list: the L2 entry set to 0, then the count less one; shorter
+ * Discards the guest cluster of this number (guest offset / C). Else 1 to 13,
+ * 16 or 18. The list: the L2 entry set to 0, then the count less one; shorter
  * where less is there.
  */
 uint32_t qcow2_discard(uint8_t *image, size_t n, uint64_t cluster, uint64_t allowance,
@@ -167,8 +170,9 @@ uint32_t qcow2_discard(uint8_t *image, size_t n, uint64_t cluster, uint64_t allo
 /*
  * Sets each count of a leaking image that is above its references to them,
  * rising by cluster, one unit each. A sound image has an empty list. Else 1 to
- * 10, 15 or 17. Unless refused with 1 to 15, scratch[0..N] ends as the check
- * would leave it for the image as it was on entry, whatever the allowance.
+ * 10, 15, 17 or 18. Unless refused with 1 to 15 or 18, scratch[0..N] ends as
+ * the check would leave it for the image as it was on entry, whatever the
+ * allowance.
  */
 uint32_t qcow2_repair(uint8_t *image, size_t n, uint8_t *scratch, size_t m, uint64_t allowance,
                       uint64_t *units);
@@ -177,8 +181,8 @@ uint32_t qcow2_repair(uint8_t *image, size_t n, uint8_t *scratch, size_t m, uint
 
 /*
  * Counts the references and judges the stored counts by them. scratch has m
- * bytes, at least N. Unless refused (1 to 10, 15), scratch[0..N] ends as the
- * references of each cluster, with 2 for two or more; the rest is as it was.
+ * bytes, at least N. Unless refused (1 to 10, 15, 18), scratch[0..N] ends as
+ * the references of each cluster, with 2 for two or more; the rest is as it was.
  *
  *   QCOW2_DONE    sound
  *   QCOW2_LEAKS   *first: number of clusters whose count is too high

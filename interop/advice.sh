@@ -40,3 +40,11 @@ expect "a write without room" "$(grep -o 'refused ([0-9]*)' <<< "$text")" 'refus
 sh -ec "$(grep -o '`[^`]*`' <<< "$text" | tr -d '`')"
 "$QSTORE" write a 400000 < data > /dev/null && text=written || text=refused
 expect "  then" "$text, $(ours a), $(theirs a)" 'written, sound, sound'
+
+# No image of qemu has a disk that ends inside a sector: 104,001 bytes, set by hand.
+create a 1M -o compat=0.10; fill a; qemu-img convert -O raw a a.raw; truncate -s 104448 a.raw
+printf '\001\226A' | dd of=a bs=1 seek=29 conv=notrunc status=none
+text=$("$QSTORE" check a 2>&1 || true)
+expect "a disk of 104,001 bytes" "$(grep -o 'refused ([0-9]*)' <<< "$text")" 'refused (18)'
+sh -ec "$(grep -o '`[^`]*`' <<< "$text" | tr -d '`')" > /dev/null
+expect "  then" "$(ours a), $(theirs a), $(compare a)" 'sound, sound, identical'

@@ -93,6 +93,9 @@ create a 1M -o preallocation=full; made "-o preallocation=full" a "$whole"
 create a 1M -o lazy_refcounts=on; fill a; made "-o lazy_refcounts=on, closed" a "$whole"
 create a 1T; made "1T, the largest disk" a "$usual"
 create a 1M; qemu-img resize -q a 2G; made "resized" a "$usual"
+create a 65537; expect "a disk of 65,537 bytes: its size" "$(field a 28)" 66048; made "  and then" a "$usual"
+qemu-img resize -q a 131073 2> /dev/null && text=resized || text=refused
+expect "  resized to 131,073 bytes, by qemu" "$text" refused
 create a 1M; fill a; qemu-img snapshot -c s a; fill a; qemu-img snapshot -d s a
 made "a snapshot made and deleted" a "$whole"
 create a 1M -o cluster_size=128k; made "-o cluster_size=128k" a 'refused 4; refused 4; refused 4'

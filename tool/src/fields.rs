@@ -5,6 +5,8 @@
 pub const MAX_IMAGE: u64 = 67_108_864;
 pub const MAX_DISK: u64 = 1 << 40;
 pub const MAX_L1: u64 = 4096;
+/// The disk is a whole number of these.
+pub const SECTOR: u64 = 512;
 /// The header_length that is accepted.
 pub const HEADER_LENGTH: u32 = 104;
 /// Bits 9 to 55 of an L1 or L2 entry: the place.

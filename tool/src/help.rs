@@ -20,7 +20,7 @@ qstore: qcow2 images by the proved core
 Numbers: 4096, 0x1000, or 4k, 1M, 1G, 1T (powers of 1024).
 
 Exit: 0 sound or finished, 1 failed, refused or stopped, 2 damaged, 3 leaks
-(3 only from check). A refusal has a number from 1 to 17 and says what to do.
+(3 only from check). A refusal has a number from 1 to 18 and says what to do.
 No machine may have the image open while it is changed.
 ";
 

@@ -34,7 +34,7 @@ fn with(test: &str, change: &dyn Fn(&mut Vec<u8>)) -> Copy {
 #[test]
 fn headers() {
     type Case<'a> = (u32, &'a str, &'a dyn Fn(&mut Vec<u8>));
-    let cases: [Case; 23] = [
+    let cases: [Case; 27] = [
         (1, "511 bytes", &|image| image.truncate(511)),
         (2, "a QED image", &|image| image[..4].copy_from_slice(b"QED\0")),
         (3, "version is 4", &|image| image[7] = 4),
@@ -51,6 +51,10 @@ fn headers() {
         (8, "reach 65536 bytes, the disk has 65537", &|image| image[31] = 1),
         (8, "at most 2^40", &|image| image[24] = 1),
         (8, "has 4097 entries", &|image| image[38..40].copy_from_slice(&[16, 1])),
+        (18, "the disk has 65537 bytes, which is not", &|image| (image[31], image[39]) = (1, 3)),
+        (18, "`qemu-img resize -f qcow2 ", &|image| (image[31], image[39]) = (1, 3)),
+        (18, " 66048`", &|image| (image[31], image[39]) = (1, 3)),
+        (18, "(256 are missing to the next)", &|image| image[29..32].copy_from_slice(&[0, 9, 0])),
         (9, "has 0 entries, and 1 are needed", &|image| image[59] = 0),
         (9, "runs past the file's end", &|image| image[42] = 1),
         (9, "no multiple of 512", &|image| image[55] = 1),

@@ -2,7 +2,7 @@
 //! the greatest length.
 #![forbid(unsafe_code)]
 
-use made::breaks::break_header;
+use made::breaks::{break_header, ORDER};
 use made::drive::usable;
 use made::full;
 use made::image::Made;
@@ -21,13 +21,13 @@ fn breaks() {
     let mut pair = Pair::new(&Core, &Plain);
     for _ in 0..40 {
         let sound = usable(&mut rng);
-        for lowest in 1..=10 {
-            for highest in lowest..=10 {
+        for (first, &number) in ORDER.iter().enumerate() {
+            for (last, &later) in ORDER.iter().enumerate().skip(first) {
                 let mut made = sound.clone();
-                if highest > lowest {
-                    break_header(&mut made, highest, &mut rng);
+                if last > first {
+                    break_header(&mut made, later, &mut rng);
                 }
-                break_header(&mut made, lowest, &mut rng);
+                break_header(&mut made, number, &mut rng);
                 pair.load(&made.bytes);
                 let mut requests = Requests::new(&made);
                 (0..8).for_each(|_| _ = pair.run(&requests.any(&mut rng)));

@@ -123,7 +123,23 @@ fn headers(side: &dyn Calls) {
             _ => 0,
         }
     };
-    assert_eq!(refused(&|image| image[31] = 1), 8);
+    let sized = |size: u64, l1_size: u8| {
+        refused(&|image| {
+            image[24..32].copy_from_slice(&size.to_be_bytes());
+            image[39] = l1_size;
+        })
+    };
+    for (size, l1_size, number) in [
+        (65_537, 2, 8),
+        (65_537, 3, 18),
+        (65_792, 3, 18),
+        (66_048, 3, 0),
+        (65_535, 2, 18),
+        (65_280, 2, 18),
+        (65_024, 2, 0),
+    ] {
+        assert_eq!(sized(size, l1_size), number);
+    }
     assert_eq!(refused(&|image| image[36..40].copy_from_slice(&4097u32.to_be_bytes())), 8);
     assert_eq!(refused(&|image| image[23] = 8), 4);
     assert_eq!(refused(&|image| image[23] = 9), 0);

@@ -1,10 +1,14 @@
-//! Headers broken at each number from 1 to 10.
+//! Headers broken at each of their numbers.
 
 use crate::image::Made;
+use crate::plan::{Plan, SECTOR};
 use crate::rng::Rng;
 
+/// The header's numbers in the order in which they are tried.
+pub const ORDER: [u32; 11] = [1, 2, 3, 4, 5, 6, 7, 8, 18, 9, 10];
+
 /// Breaks the image so that `number` applies; false where this image has no
-/// way to do it. Lower numbers are left alone.
+/// way to do it. Numbers tried before it are left alone.
 pub fn break_header(made: &mut Made, number: u32, rng: &mut Rng) -> bool {
     let cluster = made.cluster();
     match number {
@@ -27,9 +31,10 @@ pub fn break_header(made: &mut Made, number: u32, rng: &mut Rng) -> bool {
         7 if made.version == 2 => return false,
         7 => made.put64(72, 1 << rng.below(64)),
         8 => return break_8(made, rng),
+        18 => return break_18(made, rng),
         9 => return break_9(made, rng),
         10 => return break_10(made, rng),
-        _ => unreachable!("numbers 1 to 10"),
+        _ => unreachable!("a number of the header"),
     }
     true
 }
@@ -61,8 +66,25 @@ fn break_8(made: &mut Made, rng: &mut Rng) -> bool {
             let l1_size = rng.pick(&[4097, 1 << 16, 1 << 31, u32::MAX]);
             made.put32(36, l1_size);
         }
-        _ => made.put64(24, reach + 1 + rng.below(1 << 20)),
+        _ => {
+            let more = 1 + rng.below(1 << 20);
+            made.put64(24, reach + rng.pick(&[more, SECTOR * more]));
+        }
     }
+    true
+}
+
+/// A part of a sector after any whole ones, still in the L1 table's reach.
+fn break_18(made: &mut Made, rng: &mut Rng) -> bool {
+    let reach = Plan::reach(made.cluster_bits, made.l1_size);
+    if reach == 0 {
+        return false;
+    }
+    let random = SECTOR * rng.below(reach / SECTOR);
+    let last = reach - SECTOR;
+    let whole = rng.pick(&[0, made.size.min(last), last, random]);
+    let part = 1 + rng.below(SECTOR - 1);
+    made.put64(24, whole + rng.pick(&[1, SECTOR / 2, SECTOR - 1, part]));
     true
 }
 

@@ -3,7 +3,7 @@
 use answers::{Calls, Outcome};
 use plain::plain_disk::{Call, Series};
 
-use crate::breaks::break_header;
+use crate::breaks::{break_header, ORDER};
 use crate::damage;
 use crate::image::Made;
 use crate::pair::Pair;
@@ -36,10 +36,10 @@ pub fn any_image(rng: &mut Rng) -> Made {
     match rng.below(16) {
         0..=4 => {}
         5 => {
-            let highest = 1 + rng.below(10) as u32;
-            let lowest = 1 + rng.below(u64::from(highest)) as u32;
-            break_header(&mut made, highest, rng);
-            break_header(&mut made, lowest, rng);
+            let first = rng.index(ORDER.len());
+            let last = first + rng.index(ORDER.len() - first);
+            break_header(&mut made, ORDER[last], rng);
+            break_header(&mut made, ORDER[first], rng);
         }
         6 => {
             let at = rng.index(104);

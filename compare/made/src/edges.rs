@@ -2,7 +2,7 @@
 //! refuses them with, 0 where they are accepted.
 
 use crate::image::Made;
-use crate::plan::Plan;
+use crate::plan::{Plan, SECTOR};
 use crate::rng::Rng;
 
 pub fn all() -> Vec<(Vec<u8>, u32)> {
@@ -25,14 +25,29 @@ fn changed(made: &Made, change: impl Fn(&mut Made)) -> Vec<u8> {
     made.bytes
 }
 
-/// Number 8.
+/// Numbers 8 and 18.
 fn sizes(rng: &mut Rng, edges: &mut Vec<(Vec<u8>, u32)>) {
     for cluster_bits in 9..=16 {
         for l1_size in [1, 3, 4096] {
             let made = plan(cluster_bits, l1_size, 1).build(rng);
-            edges.push((made.bytes.clone(), 0));
-            edges.push((changed(&made, |made| made.put64(24, made.size + 1)), 8));
-            edges.push((changed(&made, |made| made.put64(24, made.size - 1)), 0));
+            let reach = made.size;
+            for (size, number) in [
+                (reach, 0),
+                (reach + 1, 8),
+                (reach + SECTOR / 2, 8),
+                (reach + SECTOR, 8),
+                (reach - 1, 18),
+                (reach - SECTOR / 2, 18),
+                (reach - SECTOR + 1, 18),
+                (reach - SECTOR, 0),
+                (0, 0),
+                (1, 18),
+                (SECTOR / 2, 18),
+                (SECTOR - 1, 18),
+                (SECTOR, 0),
+            ] {
+                edges.push((changed(&made, |made| made.put64(24, size)), number));
+            }
         }
         // Room for one L1 entry more, so that only the limit is in the way.
         let made = plan(cluster_bits, 4096, 1 + (1 << cluster_bits) / 512).build_in_order(rng);

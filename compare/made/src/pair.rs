@@ -5,6 +5,7 @@ use std::collections::BTreeMap;
 
 use answers::{Calls, Outcome};
 
+use crate::breaks::ORDER;
 use crate::guard::Guarded;
 use crate::requests::Request;
 
@@ -155,7 +156,7 @@ pub fn missing(tally: &BTreeMap<String, u64>) -> Vec<String> {
         ("check", &["Sound", "Leaks", "BadL1", "BadL2", "Shared", "Short"], &[15]),
     ] {
         wanted.extend(answers.iter().map(|answer| format!("{call} {answer}")));
-        let numbers = (1..=10).chain(numbers.iter().copied());
+        let numbers = ORDER.iter().chain(numbers);
         wanted.extend(numbers.map(|number| format!("{call} Refused({number})")));
     }
     wanted.extend(["lookup Some".into(), "lookup None".into()]);

@@ -5,6 +5,8 @@ use crate::rng::Rng;
 
 const MAX_IMAGE: usize = 64 << 20;
 const MAX_DISK: u64 = 1 << 40;
+/// Disks are whole numbers of sectors.
+pub const SECTOR: u64 = 512;
 
 #[derive(Clone, Copy, Debug)]
 pub struct Plan {
@@ -123,15 +125,19 @@ impl Plan {
     }
 }
 
+/// Whole sectors; where clusters are longer than these, most often not whole
+/// clusters.
 fn random_size(rng: &mut Rng, cluster: u64, max: u64) -> u64 {
     if max == 0 {
         return 0;
     }
     let some = cluster * rng.below(200);
-    let odd = some + 1 + rng.below(cluster - 1);
-    let random = rng.below(max + 1);
-    let edges = [0, 1, cluster - 1, cluster, cluster + 1, max - 1, max, max, random, random];
-    let small = [some, odd, odd];
+    let parts = (cluster / SECTOR - 1).max(1);
+    let partial = some + SECTOR * (1 + rng.below(parts));
+    let random = SECTOR * rng.below(max / SECTOR + 1);
+    let (less, more) = (cluster - SECTOR, cluster + SECTOR);
+    let edges = [0, SECTOR, less, cluster, more, max - SECTOR, max, max, random, random];
+    let small = [some, partial, partial];
     let size = if rng.once_in(4) { rng.pick(&edges) } else { rng.pick(&small) };
     size.min(max)
 }

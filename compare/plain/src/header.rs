@@ -1,9 +1,11 @@
-//! The header, judged afresh by every call: numbers 1 to 10.
+//! The header, judged afresh by every call: numbers 1 to 8, 18, 9 and
+//! 10, tried in this order.
 
 const MAGIC: [u8; 4] = [0x51, 0x46, 0x49, 0xFB];
 const MAX_IMAGE: usize = 64 << 20;
 const MAX_DISK: u64 = 1 << 40;
 const MAX_L1: u64 = 4096;
+const SECTOR: u64 = 512;
 
 pub(crate) fn be16(image: &[u8], at: usize) -> u16 {
     u16::from_be_bytes(image[at..at + 2].try_into().unwrap())
@@ -33,7 +35,7 @@ pub(crate) struct Header {
 }
 
 impl Header {
-    /// The accepted header, or the lowest number from 1 to 10 that applies.
+    /// The accepted header, or the first of its numbers that applies.
     pub fn judge(image: &[u8]) -> Result<Header, u32> {
         let (version, cluster_bits) = shape(image)?;
         features(image, version)?;
@@ -42,6 +44,9 @@ impl Header {
         let reach = l1_size << (2 * cluster_bits - 3);
         if size > MAX_DISK || l1_size > MAX_L1 || reach < size {
             return Err(8);
+        }
+        if !size.is_multiple_of(SECTOR) {
+            return Err(18);
         }
         let header = tables(image, version, cluster_bits, size, l1_size)?;
         if header.blocks_are_good(image) {

@@ -1,8 +1,8 @@
-//! Headers broken at each number, alone and with a higher break beside it, and
+//! Headers broken at each number, alone and with a later break beside it, and
 //! the limits of the image's length.
 #![forbid(unsafe_code)]
 
-use made::breaks::break_header;
+use made::breaks::{break_header, ORDER};
 use made::drive::usable;
 use made::image::Made;
 use made::plan::{bench_image, Plan};
@@ -27,21 +27,21 @@ fn all_refuse(made: &mut Made, number: u32) {
 #[test]
 fn breaks() {
     let mut rng = Rng::from_env("breaks", 1);
-    let mut tried = [0; 11];
+    let mut tried = [0; ORDER.len()];
     for _ in 0..400 {
         let sound = usable(&mut rng);
-        for lowest in 1..=10 {
-            for highest in lowest..=10 {
+        for (first, &number) in ORDER.iter().enumerate() {
+            for (last, &later) in ORDER.iter().enumerate().skip(first) {
                 let mut made = sound.clone();
-                let beside = highest > lowest && break_header(&mut made, highest, &mut rng);
-                if break_header(&mut made, lowest, &mut rng) {
-                    all_refuse(&mut made, lowest);
-                    tried[lowest as usize] += 1 + u32::from(beside);
+                let beside = last > first && break_header(&mut made, later, &mut rng);
+                if break_header(&mut made, number, &mut rng) {
+                    all_refuse(&mut made, number);
+                    tried[first] += 1 + u32::from(beside);
                 }
             }
         }
     }
-    assert!(tried[1..].iter().all(|&count| count > 100), "{tried:?}");
+    assert!(tried.iter().all(|&count| count > 100), "{tried:?}");
 }
 
 fn refusal(image: &[u8]) -> u32 {
@@ -98,16 +98,18 @@ fn tables_at_the_end() {
 /// The last guest cluster may be partly beyond the disk's end.
 #[test]
 fn partial_cluster() {
-    let mut made = bench_image();
-    made.put64(24, 65_025);
+    let plan =
+        Plan { version: 3, cluster_bits: 10, size: 65_024, l1_size: 1, spare: 2, longer_table: 0 };
+    let mut made = plan.build(&mut Rng::new(3));
     let image = &mut made.bytes;
-    assert_eq!(write(image, 65_024, &[5, 5], u64::MAX), Outcome::Refused(11));
-    assert_eq!(write(image, 65_024, &[5], u64::MAX), Outcome::Finished(1028));
-    assert_eq!(lookup(image, 65_024), [5]);
-    assert_eq!(translate(image, 65_025), Found::Refused(11));
-    assert_eq!(discard(image, 128, u64::MAX), Outcome::Refused(11));
-    assert_eq!(discard(image, 127, u64::MAX), Outcome::Finished(2));
-    assert_eq!(translate(image, 65_024), Found::Absent);
+    assert_eq!(write(image, 65_023, &[5, 5], u64::MAX), Outcome::Refused(11));
+    assert_eq!(write(image, 65_023, &[5], u64::MAX), Outcome::Finished(2052));
+    assert_eq!(lookup(image, 65_023), [5]);
+    assert_eq!(lookup(image, 64_512).len(), 512);
+    assert_eq!(translate(image, 65_024), Found::Refused(11));
+    assert_eq!(discard(image, 64, u64::MAX), Outcome::Refused(11));
+    assert_eq!(discard(image, 63, u64::MAX), Outcome::Finished(2));
+    assert_eq!(translate(image, 65_023), Found::Absent);
 }
 
 #[test]

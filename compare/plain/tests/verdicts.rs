@@ -17,8 +17,10 @@ fn verdict(made: &Made) -> Verdict {
 #[test]
 fn made_images_are_sound() {
     let mut rng = Rng::from_env("sound", 11);
+    let mut partial = 0;
     for _ in 0..IMAGES {
         let made = sound(&mut rng);
+        partial += usize::from(!made.size.is_multiple_of(made.cluster() as u64));
         let mut scratch = vec![7; made.clusters() + 3];
         assert_eq!(check(&made.bytes, &mut scratch), Verdict::Sound);
         for (cluster, &figure) in scratch[..made.clusters()].iter().enumerate() {
@@ -26,6 +28,7 @@ fn made_images_are_sound() {
         }
         assert_eq!(scratch[made.clusters()..], [7; 3]);
     }
+    assert!(partial > IMAGES / 6, "{partial} disks end inside a cluster");
 }
 
 #[test]

@@ -13,7 +13,7 @@ use Rattle.endian.specs.Big.{be16, be32, be64, bytes16, bytes32, bytes64, entri
 use Rattle.units.specs.Units.{apply, applyAll, fill, cluster}
 use Rattle.units.specs.Plan.{Plan, planUnits, planNumber, after}
 use Rattle.tally.specs.Tally.{run, occurrences, figures, twice}
-use Rattle.qcow2_spec.specs.Header.{version, clusterSize, clusters, diskSize, l1Size, l1At, tableAt, tableClusters, perBlock, blocks, perTable, table, blockAt, goodBlock, goodTable, unsupported, tooBig, badTables, headerNumber, tableNumber, judge}
+use Rattle.qcow2_spec.specs.Header.{version, clusterSize, clusters, diskSize, l1Size, l1At, tableAt, tableClusters, perBlock, blocks, perTable, table, blockAt, goodBlock, goodTable, unsupported, tooBig, oddSize, badTables, headerNumber, tableNumber, judge}
 use Rattle.qcow2_spec.specs.Entries.{place, goodPlace, goodL1, goodL2, compressed, zeroMark, newEntry}
 use Rattle.qcow2_spec.specs.Counts.{countAt, countOf, setCount, freeAt, freeFrom, free}
 use Rattle.qcow2_spec.specs.Guest.{l1EntryAt, l1Entry, entryWay, l2Way, way, entryGives, wayGives, located, translate, foundByte, guestByte, guestBytes, wayNumber, waysNumber, outside, touched, readNumber}
@@ -28,7 +28,7 @@ use Rattle.bench_table.proofs.Quick.{quick, quick-ok}
 
 -- what an example computes with
 unfoldable computing : Unit {0}
-unfolding be16 be32 be64 bytes16 bytes32 bytes64 entries version clusterSize clusters diskSize l1Size l1At tableAt tableClusters perBlock blocks perTable table blockAt goodBlock goodTable unsupported tooBig badTables headerNumber tableNumber judge countAt countOf freeAt freeFrom place goodPlace goodL1 goodL2 compressed zeroMark l1EntryAt l1Entry way entryWay l2Way entryGives wayGives located translate foundByte guestByte guestBytes wayNumber waysNumber outside touched readNumber apply applyAll setCount fill cluster newEntry judged allot writeNew writeTable writeSlot writeWay writePlan discardSlot discardWay discardPlan planUnits planNumber after run l1Entries l2Entries named l2Refs tableRefs l1Refs fixedRefs references occurrences figures twice figuresOf short over l2Verdict entryVerdict l1Verdict countsVerdict verdict free repairUnits verdictPlan repairPlan header body benchWith bench quick cost filled write written
+unfolding be16 be32 be64 bytes16 bytes32 bytes64 entries version clusterSize clusters diskSize l1Size l1At tableAt tableClusters perBlock blocks perTable table blockAt goodBlock goodTable unsupported tooBig oddSize badTables headerNumber tableNumber judge countAt countOf freeAt freeFrom place goodPlace goodL1 goodL2 compressed zeroMark l1EntryAt l1Entry way entryWay l2Way entryGives wayGives located translate foundByte guestByte guestBytes wayNumber waysNumber outside touched readNumber apply applyAll setCount fill cluster newEntry judged allot writeNew writeTable writeSlot writeWay writePlan discardSlot discardWay discardPlan planUnits planNumber after run l1Entries l2Entries named l2Refs tableRefs l1Refs fixedRefs references occurrences figures twice figuresOf short over l2Verdict entryVerdict l1Verdict countsVerdict verdict free repairUnits verdictPlan repairPlan header body benchWith bench quick cost filled write written
 computing = tt
 
 quick-stored : (a b c d e x y z : ℕ) → Stored quick (a ∷ b ∷ c ∷ d ∷ e ∷ []) x y z
@@ -88,7 +88,7 @@ starred a b c d e x y z =
 
 pub headers : Headers
 unfolding computing
-headers = record { accepted = refl; size = refl; size-reached = refl; rows = refl; bits-8 = refl; bits-17 = refl; bits-16 = refl; short = refl; odd = refl }
+headers = record { accepted = refl; size = refl; sectors = refl; whole-sectors = refl; rows = refl; bits-8 = refl; bits-17 = refl; bits-16 = refl; short = refl; odd = refl }
 
 -- ---- demand 3 speaks of the bench image
 each-byte : (l : List ℕ) → all (λ b. ltb b 256) l ≡ true → (i : ℕ) → ltb (getD l i 0) 256 ≡ true

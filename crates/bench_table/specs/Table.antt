@@ -95,7 +95,8 @@ pub record Starred (store : Plan → ℕ → List ℕ → List ℕ) (five : List
 pub record Headers : Type 0 where
   pub accepted : judge bench ≡ 0
   pub size : judge (benchWith 9 65537 2) ≡ 8
-  pub size-reached : judge (benchWith 9 65537 3) ≡ 0
+  pub sectors : judge (benchWith 9 65537 3) ≡ 18
+  pub whole-sectors : judge (benchWith 9 66048 3) ≡ 0
   pub rows : judge (benchWith 9 65536 4097) ≡ 8
   pub bits-8 : judge (benchWith 8 65536 2) ≡ 4
   pub bits-17 : judge (benchWith 17 65536 2) ≡ 4

@@ -14,7 +14,7 @@ use units::Outcome;
 
 mod opened;
 
-// Where guest offset x lies: a host offset, zeros, not allocated, or a number from 1 to 13.
+// Where guest offset x lies: a host offset, zeros, not allocated, or a number from 1 to 13 or 18.
 pub fn translate(image: &[u8], x: u64) -> Found
     ensures { λ r. ⌜ r ≡ translation (now (image .entry)) x ⌝ }
 {
@@ -25,7 +25,7 @@ pub fn translate(image: &[u8], x: u64) -> Found
     }
 }
 
-// Fills out with the guest bytes from x on and answers 0, or answers a number from 1 to 13 and leaves it alone.
+// Fills out with the guest bytes from x on and answers 0, or answers a number from 1 to 13 or 18 and leaves it alone.
 pub fn read(image: &[u8], x: u64, out: &mut [u8]) -> u8
     ensures { λ r. ⌜ (r ≡ readNumber (now (image .entry)) x (length (now (out .entry)))) × (now (out .exit) ≡ readInto (now (image .entry)) x (now (out .entry))) ⌝ }
 {
@@ -48,7 +48,7 @@ pub fn lookup<'a>(image: &'a [u8], x: u64) -> &'a [u8]
     }
 }
 
-// Writes src at guest offset x, as far as the allowance of units goes: finished, stopped, or a number from 1 to 14.
+// Writes src at guest offset x, as far as the allowance of units goes: finished, stopped, or a number from 1 to 14 or 18.
 pub fn write(image: &mut [u8], x: u64, src: &[u8], allowance: usize) -> Outcome
     ensures { λ r. ⌜ Done (writePlan (now (image .entry)) x (now (src .entry))) allowance (now (image .entry)) r (now (image .exit)) ⌝ }
 {
@@ -59,7 +59,7 @@ pub fn write(image: &mut [u8], x: u64, src: &[u8], allowance: usize) -> Outcome
     }
 }
 
-// Discards a guest cluster, as far as the allowance goes: finished, stopped, or a number from 1 to 13 or 16.
+// Discards a guest cluster, as far as the allowance goes: finished, stopped, or a number from 1 to 13, 16 or 18.
 pub fn discard(image: &mut [u8], guest: u64, allowance: usize) -> Outcome
     ensures { λ r. ⌜ Done (discardPlan (now (image .entry)) guest) allowance (now (image .entry)) r (now (image .exit)) ⌝ }
 {
@@ -70,7 +70,7 @@ pub fn discard(image: &mut [u8], guest: u64, allowance: usize) -> Outcome
     }
 }
 
-// Says sound, leaking or damaged, or a number from 1 to 10 or 15. The scratch's first bytes end as the references.
+// Says sound, leaking or damaged, or a number from 1 to 10, 15 or 18. The scratch's first bytes end as the references.
 pub fn check(image: &[u8], scratch: &mut [u8]) -> Verdict
     ensures { λ r. ⌜ (r ≡ checked (now (image .entry)) (length (now (scratch .entry)))) × (now (scratch .exit) ≡ scratchLeft (now (image .entry)) (now (scratch .entry))) ⌝ }
 {
@@ -82,7 +82,7 @@ pub fn check(image: &[u8], scratch: &mut [u8]) -> Verdict
 }
 
 // Sets each count that differs from the references to them, as far as the allowance goes: finished, stopped, or a number from
-// 1 to 10, 15 or 17. The scratch ends as a check leaves it, whatever the allowance.
+// 1 to 10, 15, 17 or 18. The scratch ends as a check leaves it, whatever the allowance.
 pub fn repair(image: &mut [u8], scratch: &mut [u8], allowance: usize) -> Outcome
     ensures { λ r. ⌜ Done (repairPlan (now (image .entry)) (length (now (scratch .entry)))) allowance (now (image .entry)) r (now (image .exit)) × (now (scratch .exit) ≡ scratchLeft (now (image .entry)) (now (scratch .entry))) ⌝ }
 {

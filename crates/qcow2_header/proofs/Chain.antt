@@ -7,7 +7,7 @@ use mathlib.Core.List.{List}
 use Rattle.choice.specs.Pick.{if_then_else_, unless}
 use Rattle.qcow2_spec.specs.Header.{headerNumber, tableNumber, judge}
 use Rattle.qcow2_spec.specs.Opened.{opened}
-use Rattle.qcow2_header.specs.Chain.{oddLength, features, from1, from2, from3, from4, from5, from6, from7, from8, from9, from10}
+use Rattle.qcow2_header.specs.Chain.{oddLength, features, from1, from2, from3, from4, from5, from6, from7, from8, from18, from9, from10}
 
 -- a number that comes first, and one that comes last
 before : {A : Type 0} (b : Bool) (k r t : ℕ) (f : ℕ → A) (a : A)
@@ -19,7 +19,7 @@ last : {A : Type 0} (b : Bool) (k : ℕ) (f : ℕ → A) (a : A) → unless (if 
 last true k f a = refl
 last false k f a = refl
 
--- `before` once for each of the numbers 1 to 9, `last` for 10
+-- `before` once for each of the numbers 1 to 9 and 18, `last` for 10
 pub chain : (s : List ℕ) → opened s ≡ from1 s
-unfolding opened judge headerNumber tableNumber oddLength features from1 from2 from3 from4 from5 from6 from7 from8 from9 from10
-chain s = rw (before, before, before, before, before, before, before, before, before, last)
+unfolding opened judge headerNumber tableNumber oddLength features from1 from2 from3 from4 from5 from6 from7 from8 from18 from9 from10
+chain s = rw (before, before, before, before, before, before, before, before, before, before, last)

@@ -14,7 +14,7 @@ use Rattle.choice.specs.Pick.{all}
 use Rattle.choice.proofs.Tests.{or-false}
 use Rattle.endian.specs.Big.{be64, entries}
 use Rattle.endian.proofs.Entries.{part-rest, entries-turn, entries-none}
-use Rattle.qcow2_spec.specs.Header.{clusterSize, perTable, l1At, tableAt, blocks, table, tooBig, badTables, goodBlock, goodTable}
+use Rattle.qcow2_spec.specs.Header.{clusterSize, perTable, diskSize, l1At, tableAt, blocks, table, tooBig, badTables, goodBlock, goodTable}
 use Rattle.qcow2_spec.specs.Opened.{geometry}
 use Rattle.qcow2_spec.specs.declared.Geometry.{Geometry}
 use Rattle.qcow2_header.specs.Chain.{oversize, misplaced, misplacedTables}
@@ -68,6 +68,11 @@ module _ (p : ℕ → Bool) (k j : ℕ) (t : List ℕ) {r : Bool} (left : all p 
 
   pub all-done : k ≤ j → true ≡ r
   all-done h = rw (entries-none k j t h) at left
+
+-- the size that the header gives
+pub size-is : (g : Geometry) (s : List ℕ) → g ≡ geometry s → g .size ≡ diskSize s
+unfolding geometry
+size-is g s e = ap (λ (x : Geometry). x .size) e
 
 -- ---- the tests 8 to 10, of what the header gives
 pub oversize-is : (g : Geometry) (s : List ℕ) → g ≡ geometry s → oversize g ≡ tooBig s

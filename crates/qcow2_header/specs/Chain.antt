@@ -1,4 +1,4 @@
--- The header's numbers one by one: `from7` is what the numbers 7 to 10 say, where 1 to 6 do not apply.
+-- The header's numbers one by one, in their order (1 to 8, 18, 9, 10): `from7` is what the numbers from 7 on say, where 1 to 6 do not apply.
 -- Assumes nothing.
 use Prim.Native.Nat.{ℕ, _+_, _*_, _/_, _%_, _^_, _≤_, _<_}
 use mathlib.Core.Path.{_≡_}
@@ -7,7 +7,7 @@ use mathlib.Core.List.{List}
 use lib.Dec.{ltb, eqb}
 use lib.ListN.{length}
 use Rattle.choice.specs.Pick.{if_then_else_}
-use Rattle.qcow2_spec.specs.Header.{leastLength, mostLength, leastBits, mostBits, mostSize, mostL1, magic, version, clusterBits, clusterSize, refcountOrder, headerLength, incompatible, unsupported, tooBig, badTables, blocks, table, goodTable}
+use Rattle.qcow2_spec.specs.Header.{leastLength, mostLength, leastBits, mostBits, mostSize, mostL1, magic, version, clusterBits, clusterSize, refcountOrder, headerLength, incompatible, unsupported, tooBig, oddSize, badTables, blocks, table, goodTable}
 use Rattle.qcow2_spec.specs.Opened.{geometry}
 use Rattle.qcow2_spec.specs.declared.Geometry.{Geometry}
 use Rattle.qcow2_spec.specs.declared.Judged.{Judged}
@@ -33,8 +33,11 @@ from10 s = if goodTable (clusterSize s) (length s) (blocks s) (table s) then Acc
 unfoldable pub from9 : List ℕ → Judged
 from9 s = if badTables s then Refused 9 else from10 s
 
+unfoldable pub from18 : List ℕ → Judged
+from18 s = if oddSize s then Refused 18 else from9 s
+
 unfoldable pub from8 : List ℕ → Judged
-from8 s = if tooBig s then Refused 8 else from9 s
+from8 s = if tooBig s then Refused 8 else from18 s
 
 unfoldable pub from7 : List ℕ → Judged
 from7 s = if features s then Refused 7 else from8 s

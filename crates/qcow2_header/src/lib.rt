@@ -1,4 +1,4 @@
-// The header of a qcow2 image: the lowest of the numbers 1 to 10 that applies, or the geometry that the header gives.
+// The header of a qcow2 image: the first of the numbers 1 to 8, 18, 9 and 10 that applies, or the geometry that the header gives.
 mod fields;
 mod limits;
 mod table;
@@ -7,7 +7,7 @@ ghost use mathlib.Core.Path.{_≡_};
 ghost use Prim.Native.Nat.{_≤_};
 ghost use lib.ListN.{length};
 ghost use Rattle.qcow2_spec.specs.Opened.{opened};
-ghost use Rattle.qcow2_header.specs.Chain.{from2, from3, from4, from5, from6, from7, from8, from9, from10, Known, Sized, Read, Placed};
+ghost use Rattle.qcow2_header.specs.Chain.{from2, from3, from4, from5, from6, from7, from8, from18, from9, from10, Known, Sized, Read, Placed};
 use qcow2_spec::Geometry;
 use qcow2_spec::Judged;
 
@@ -37,6 +37,17 @@ fn judge_tables(image: &[u8], g: Geometry) -> Judged
     judge_entries(image, g)
 }
 
+// 18: whole sectors.
+fn judge_sectors(image: &[u8], g: Geometry) -> Judged
+    requires { ⌜ Read g (now image) ⌝ }
+    ensures { λ r. ⌜ r ≡ from18 (now (image .entry)) ⌝ }
+{
+    if g.size % limits::SECTOR != 0 {
+        return Judged::Refused(18);
+    }
+    judge_tables(image, g)
+}
+
 // 8: the size of the disk.
 fn judge_disk(image: &[u8], g: Geometry) -> Judged
     requires { ⌜ Read g (now image) ⌝ }
@@ -45,7 +56,7 @@ fn judge_disk(image: &[u8], g: Geometry) -> Judged
     if limits::oversize(g) {
         return Judged::Refused(8);
     }
-    judge_tables(image, g)
+    judge_sectors(image, g)
 }
 
 // 7: incompatible features.

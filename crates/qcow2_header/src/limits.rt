@@ -17,6 +17,8 @@ pub(crate) const MOST_BITS: u32 = 16;
 
 // Bytes of the largest disk, and entries of the longest L1 table.
 const MOST_SIZE: u64 = 1099511627776;
+// The bytes of a sector.
+pub(crate) const SECTOR: u64 = 512;
 
 const MOST_L1: usize = 4096;
 

@@ -13,7 +13,7 @@ use borrow.Author.Tests.{ltb-false, leb-true, eqb-true, eqb-false, not-true, not
 use Rattle.choice.specs.Pick.{if_then_else_, unless, all, ceilDiv}
 use Rattle.choice.proofs.Tests.{if-zero, and-true, or-false, or-true}
 use Rattle.endian.specs.Big.{be32, be64, entries}
-use Rattle.qcow2_spec.specs.Header.{version, clusterSize, clusters, diskSize, l1Size, l1At, tableAt, tableClusters, perBlock, blocks, perTable, table, blockAt, goodBlock, goodTable, unsupported, tooBig, badTables, headerNumber, tableNumber, judge}
+use Rattle.qcow2_spec.specs.Header.{version, clusterSize, clusters, diskSize, l1Size, l1At, tableAt, tableClusters, perBlock, blocks, perTable, table, blockAt, goodBlock, goodTable, unsupported, tooBig, oddSize, badTables, headerNumber, tableNumber, judge}
 use Rattle.qcow2_spec.specs.Entries.{place, goodPlace, goodL1, goodL2, compressed, zeroMark}
 use Rattle.qcow2_spec.specs.Counts.{countAt}
 use Rattle.endian.proofs.Entries.{be64-drop, take-entries}
@@ -94,7 +94,8 @@ facts s h0 =
     let g = if-zero (unsupported s) _ _ (f .1) in
     let h = if-zero (eqb (version s) 3 && not (eqb (be64 s 72) 0)) _ _ (g .1) in
     let i = if-zero (tooBig s) _ _ (h .1) in
-    let j = if-zero (badTables s) _ _ (i .1) in
+    let m = if-zero (oddSize s) _ _ (i .1) in
+    let j = if-zero (badTables s) _ _ (m .1) in
     let d1 = or-false (ltb (be32 s 20) 9) _ (d .0) in
     let f1 = or-false (not (eqb (n % C) 0)) _ (f .0) in
     let i1 = or-false (ltb (2 ^ 40) (diskSize s) || ltb 4096 (l1Size s)) _ (i .0) in

@@ -11,7 +11,7 @@ use Rattle.clusters.proofs.Call.{Ok}
 use Rattle.choice.specs.Pick.{ceilDiv}
 use Rattle.endian.specs.Big.{be16, be32, be64}
 use Rattle.endian.proofs.Entries.{be64-drop}
-use Rattle.qcow2_spec.specs.Header.{version, clusterSize, clusters, diskSize, l1Size, l1At, tableAt, tableClusters, perBlock, blocks, perTable, table, blockAt, unsupported, tooBig, badTables, headerNumber, tableNumber, judge}
+use Rattle.qcow2_spec.specs.Header.{version, clusterSize, clusters, diskSize, l1Size, l1At, tableAt, tableClusters, perBlock, blocks, perTable, table, blockAt, unsupported, tooBig, oddSize, badTables, headerNumber, tableNumber, judge}
 use Rattle.qcow2_spec.specs.Counts.{countAt, countOf}
 use Rattle.qcow2_spec.proofs.Numbers.{mem8, mem2, place-of, entries-cong}
 use Rattle.qcow2_spec.proofs.Facts.{Facts, in-block, c-8, c-big, n-whole, block-named}
@@ -131,7 +131,7 @@ module _ (s : List ℕ) (f : Facts s) where
         each i l = be64-drop t (tableAt s) (8 * i) ∙ sym (rt-at t i) ∙ k .table i l ∙ rt-at s i ∙ sym (be64-drop s (tableAt s) (8 * i))
 
     pub same-judge : judge t ≡ judge s
-    unfolding judge headerNumber tableNumber unsupported tooBig badTables
+    unfolding judge headerNumber tableNumber unsupported tooBig oddSize badTables
     same-judge =
         simp (
           same-length,

@@ -1,4 +1,5 @@
--- The header's fields, their limits, and the numbers 1 to 10. Paper 01, "What counts as an image" and the table of numbers.
+-- The header's fields, their limits, and the numbers 1 to 10 and 18. Paper 01, "What counts as an image" and the table of numbers;
+-- paper 02, T-02.
 -- Assumes nothing.
 use Prim.Native.Nat.{ℕ, _+_, _*_, _/_, _%_, _^_}
 use mathlib.Core.Bool.{Bool, not, _&&_, _||_}
@@ -27,6 +28,10 @@ mostBits = 16
 -- the bytes of the largest disk
 abbrev pub mostSize : ℕ
 mostSize = 2 ^ 40
+
+-- the bytes of a sector
+abbrev pub sector : ℕ
+sector = 512
 
 -- the entries of the longest L1 table
 abbrev pub mostL1 : ℕ
@@ -129,6 +134,10 @@ tooBig s =
     ltb mostSize (diskSize s) || ltb mostL1 (l1Size s)
     || ltb (l1Size s * perTable s * clusterSize s) (diskSize s)
 
+-- 18: a disk that is no whole number of sectors
+unfoldable pub oddSize : List ℕ → Bool
+oddSize s = not (eqb (diskSize s % sector) 0)
+
 -- 9: a table misplaced, running past n, or too short for B entries
 unfoldable pub badTables : List ℕ → Bool
 badTables s =
@@ -136,7 +145,7 @@ badTables s =
     || ltb (length s) (l1At s + 8 * l1Size s) || ltb (length s) (tableAt s + tableClusters s * clusterSize s)
     || ltb (tableClusters s * perTable s) (blocks s)
 
--- the lowest of the numbers 1 to 9 that applies; 0 where none does
+-- the first of the numbers 1 to 8, 18 and 9 that applies, in this order; 0 where none does
 unfoldable pub headerNumber : List ℕ → ℕ
 headerNumber s =
     if ltb (length s) leastLength then 1 else
@@ -147,6 +156,7 @@ headerNumber s =
     if unsupported s then 6 else
     if eqb (version s) 3 && not (eqb (incompatible s) 0) then 7 else
     if tooBig s then 8 else
+    if oddSize s then 18 else
     if badTables s then 9 else
     0
 
@@ -154,6 +164,6 @@ headerNumber s =
 unfoldable pub tableNumber : List ℕ → ℕ
 tableNumber s = if goodTable (clusterSize s) (length s) (blocks s) (table s) then 0 else 10
 
--- the number of a refused image, the lowest that applies; 0 for an accepted one
+-- the number of a refused image, the first that applies; 0 for an accepted one
 unfoldable pub judge : List ℕ → ℕ
 judge s = unless (headerNumber s) (λ k. k) (tableNumber s)

@@ -58,7 +58,7 @@ figuresOf s = figures (references s) 0 (clusters s)
 unfoldable pub scratchAfter : List ℕ → List ℕ → List ℕ
 scratchAfter s scratch = figuresOf s ++ drop (clusters s) scratch
 
--- the scratch that a check or a repair leaves: 1 to 10 and 15 leave it as it was
+-- the scratch that a check or a repair leaves: 1 to 10, 15 and 18 leave it as it was
 unfoldable pub scratchLeft : List ℕ → List ℕ → List ℕ
 scratchLeft s scratch =
     unless (judge s) (λ k. scratch)

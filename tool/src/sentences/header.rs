@@ -1,7 +1,7 @@
-//! Numbers 1 to 5, 8 and 9.
+//! Numbers 1 to 5, 8, 9 and 18.
 
 use super::Subject;
-use crate::fields::{Fields, MAX_DISK, MAX_IMAGE, MAX_L1};
+use crate::fields::{Fields, MAX_DISK, MAX_IMAGE, MAX_L1, SECTOR};
 
 /// Numbers 1 to 5.
 pub fn shape(number: u32, subject: &Subject) -> (String, String) {
@@ -109,6 +109,24 @@ fn size(fields: &Fields, cluster: u64) -> String {
             fields.size
         )
     }
+}
+
+/// Number 18. The next whole sector is never past the limits of number 8.
+pub fn sectors(subject: &Subject) -> (String, String) {
+    let size = Fields::read(subject.bytes).map_or(0, |fields| fields.size);
+    let missing = size.wrapping_neg() % SECTOR;
+    let what = format!(
+        "the disk has {size} bytes, which is not a whole number of sectors of 512 bytes ({missing} \
+         are missing to the next)"
+    );
+    let advice = format!(
+        "Lengthen the disk to whole sectors, which keeps every guest byte: `qemu-img resize -f \
+         qcow2 {} {}`. Until then any copy that qemu makes lacks the last {} bytes.",
+        subject.word(),
+        size.saturating_add(missing),
+        size % SECTOR
+    );
+    (what, advice)
 }
 
 fn tables(subject: &Subject, fields: &Fields, cluster: u64) -> String {

@@ -42,7 +42,7 @@ pub struct Refusal {
     pub advice: String,
 }
 
-/// The sentence for a number from 1 to 17.
+/// The sentence for a number from 1 to 18.
 pub fn refusal(number: u32, subject: &Subject, request: Request) -> Refusal {
     let (what, advice) = match number {
         1..=5 => header::shape(number, subject),
@@ -50,6 +50,7 @@ pub fn refusal(number: u32, subject: &Subject, request: Request) -> Refusal {
         8 | 9 => header::sizes(number, subject),
         10 => blocks::sentence(subject),
         11..=17 => request::sentence(number, subject, request),
+        18 => header::sectors(subject),
         _ => ("the core answered with an unknown number".into(), "Report this.".into()),
     };
     Refusal { number, what, advice }
@@ -108,7 +109,7 @@ mod tests {
                     assert!(!refusal.what.is_empty() && !refusal.advice.is_empty());
                     assert_eq!(
                         refusal.what.contains("unknown number"),
-                        !(1..=17).contains(&number)
+                        !(1..=18).contains(&number)
                     );
                 }
             }

@@ -11,7 +11,7 @@ returns c = rw (← oversize-is _ _ (c .before .before .before .pre .is), ← c 
 returns-2 : tie.Need-returns-2
 unfolding from8
 returns-2 c =
-    rw (← oversize-is _ _ (c .before .before .before .before .pre .is), ← c .before .before .oversize .ensures, c .before .if1 .left) (c .judge-tables .ensures)
+    rw (← oversize-is _ _ (c .before .before .before .before .pre .is), ← c .before .before .oversize .ensures, c .before .if1 .left) (c .judge-sectors .ensures)
 
 pub judge-disk-spec : {M : Type 1} → statement M
 judge-disk-spec = tie.close (tie.spec (search needs) returns (λ c κs. c .before .before .before .pre) returns-2)
