@@ -18,10 +18,11 @@ leastLength = 512
 abbrev pub mostLength : ℕ
 mostLength = 67108864
 
--- cluster_bits at its least and at its most
+-- cluster_bits at its least
 abbrev pub leastBits : ℕ
 leastBits = 9
 
+-- cluster_bits at its most
 abbrev pub mostBits : ℕ
 mostBits = 16
 
@@ -38,15 +39,19 @@ abbrev pub mostL1 : ℕ
 mostL1 = 4096
 
 -- ---- the fields, at the places of the published format
+-- the four bytes that a qcow2 image starts with
 abbrev pub magic : List ℕ → ℕ
 magic s = be32 s 0
 
+-- the format's version
 unfoldable pub version : List ℕ → ℕ
 version s = be32 s 4
 
+-- where a backing file's name stands; 0: there is none
 abbrev pub backingOffset : List ℕ → ℕ
 backingOffset s = be64 s 8
 
+-- the cluster size as a power of two
 abbrev pub clusterBits : List ℕ → ℕ
 clusterBits s = be32 s 20
 
@@ -54,33 +59,39 @@ clusterBits s = be32 s 20
 unfoldable pub diskSize : List ℕ → ℕ
 diskSize s = be64 s 24
 
+-- the encryption; 0: none
 abbrev pub cryptMethod : List ℕ → ℕ
 cryptMethod s = be32 s 32
 
--- the entries of the L1 table, and its place
+-- the entries of the L1 table
 unfoldable pub l1Size : List ℕ → ℕ
 l1Size s = be32 s 36
 
+-- the place of the L1 table
 unfoldable pub l1At : List ℕ → ℕ
 l1At s = be64 s 40
 
--- the place of the refcount table, and its clusters
+-- the place of the refcount table
 unfoldable pub tableAt : List ℕ → ℕ
 tableAt s = be64 s 48
 
+-- the clusters of the refcount table
 unfoldable pub tableClusters : List ℕ → ℕ
 tableClusters s = be32 s 56
 
+-- how many snapshots there are
 abbrev pub snapshots : List ℕ → ℕ
 snapshots s = be32 s 60
 
--- version 3 alone has the next three
+-- the features that a program must know to open the image; version 3 alone has this field and the next two
 abbrev pub incompatible : List ℕ → ℕ
 incompatible s = be64 s 72
 
+-- the width of a count as a power of two
 abbrev pub refcountOrder : List ℕ → ℕ
 refcountOrder s = be32 s 96
 
+-- the bytes of the header
 abbrev pub headerLength : List ℕ → ℕ
 headerLength s = be32 s 100
 
