@@ -26,8 +26,8 @@
  *   C is the cluster size, 2 to the power cluster_bits; N = n / C the clusters
  *   of the image; size the guest disk's length in bytes. A stored count is a
  *   cluster's refcount (16 bits), its references are what the tables name.
- *   A unit is the storing of one count, of one L1 or L2 entry, or of one byte
- *   of a fill.
+ *   A unit is the storing of one count, of one L1 or L2 entry, of the autoclear
+ *   field, or of one byte of a fill.
  *
  * Answers
  *   0 is done: finished, sound, or a host offset, as the call has it.
@@ -148,6 +148,13 @@ size_t qcow2_lookup(const uint8_t *image, size_t n, uint64_t offset);
  * Both give the units made in *units. UINT64_MAX as allowance never stops.
  * To cut a call after u units is to leave the image as a power cut would. A
  * stopped call is not to be continued: call again, and a new list is made.
+ *
+ * The autoclear field is bytes 88 to 95 of a version 3 image. Where it is not
+ * zero, a list that is not empty has one unit more, its first: the field is
+ * stored as zero. So whoever knows a feature of these bits sees that the image
+ * was changed by one who does not. Each figure below that is above 0 is for a
+ * field of zero, and one higher otherwise. An empty list and a refusal leave
+ * the field as it is; version 2 has no such field.
  */
 
 /*
@@ -172,7 +179,8 @@ uint32_t qcow2_discard(uint8_t *image, size_t n, uint64_t cluster, uint64_t allo
  * rising by cluster, one unit each. A sound image has an empty list. Else 1 to
  * 10, 15, 17 or 18. Unless refused with 1 to 15 or 18, scratch[0..N] ends as
  * the check would leave it for the image as it was on entry, whatever the
- * allowance.
+ * allowance. Where the autoclear field is not zero, what looks leaked may belong
+ * to a feature of its bits, such as qemu's persistent bitmaps.
  */
 uint32_t qcow2_repair(uint8_t *image, size_t n, uint8_t *scratch, size_t m, uint64_t allowance,
                       uint64_t *units);

@@ -114,6 +114,21 @@ static void whole_write(void)
     expect("  units", units, 3);
 }
 
+/* Autoclear bits, as qemu has for its bitmaps, are cleared by the first unit. */
+static void autoclear(void)
+{
+    uint64_t units = 0;
+    store(88, 1, 8);
+    expect("write of length 0: done", write_text(33280, "", UINT64_MAX, &units), QCOW2_DONE);
+    expect("  the autoclear bits", load(88, 8), 1);
+    expect("write cut after 1 unit: stopped", write_text(33280, "xyz", 1, &units), QCOW2_STOPPED);
+    expect("  the autoclear bits", load(88, 8), 0);
+    expect("  the data are as they were", memcmp(image + 2560, "abc", 3) == 0, 1);
+    store(88, 1, 8);
+    expect("whole write: done", write_text(33280, "xyz", UINT64_MAX, &units), QCOW2_DONE);
+    expect("  units", units, 4);
+}
+
 static void refusals(void)
 {
     uint64_t units = 0, first = 0, second = 0;
@@ -153,6 +168,7 @@ int main(void)
     expect("  free clusters", free_clusters(), 12);
     cut_and_repair();
     whole_write();
+    autoclear();
     refusals();
     discard();
     puts(failed ? "example: WRONG" : "example: all as expected");

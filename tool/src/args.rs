@@ -15,18 +15,11 @@ pub struct Options {
 pub enum Command {
     Info,
     Check,
-    Repair(Change),
+    Repair { allowance: u64, force: bool },
     Map,
     Read { offset: u64, length: u64 },
-    Write { offset: u64, change: Change },
-    Discard { offset: u64, length: u64, change: Change },
-}
-
-/// Options of the commands that change the image.
-#[derive(Clone, Copy, Debug, PartialEq)]
-pub struct Change {
-    pub allowance: u64,
-    pub force: bool,
+    Write { offset: u64, allowance: u64 },
+    Discard { offset: u64, length: u64, allowance: u64 },
 }
 
 pub enum Parsed {
@@ -35,16 +28,16 @@ pub enum Parsed {
     Version,
 }
 
-/// A command's name, its operands beside the image, whether it changes the
-/// image, and its help.
-const COMMANDS: [(&str, &[&str], bool, &str); 7] = [
-    ("info", &[], false, help::INFO),
-    ("check", &[], false, help::CHECK),
-    ("repair", &[], true, help::REPAIR),
-    ("map", &[], false, help::MAP),
-    ("read", &["OFFSET", "LENGTH"], false, help::READ),
-    ("write", &["OFFSET"], true, help::WRITE),
-    ("discard", &["OFFSET", "LENGTH"], true, help::DISCARD),
+/// A command's name, its operands beside the image, its options beside those
+/// of all, and its help.
+const COMMANDS: [(&str, &[&str], &[&str], &str); 7] = [
+    ("info", &[], &[], help::INFO),
+    ("check", &[], &[], help::CHECK),
+    ("repair", &[], &["--allowance", "--force"], help::REPAIR),
+    ("map", &[], &[], help::MAP),
+    ("read", &["OFFSET", "LENGTH"], &[], help::READ),
+    ("write", &["OFFSET"], &["--allowance"], help::WRITE),
+    ("discard", &["OFFSET", "LENGTH"], &["--allowance"], help::DISCARD),
 ];
 
 /// What is asked, or what is wrong with the line.
@@ -57,14 +50,14 @@ pub fn parse(args: impl IntoIterator<Item = OsString>) -> Result<Parsed, String>
         Some(name) => name,
         None => "",
     };
-    let &(name, operands, changes, text) = COMMANDS
+    let &(name, operands, options, text) = COMMANDS
         .iter()
         .find(|command| command.0 == name)
         .ok_or_else(|| format!("there is no command '{}'", first.to_string_lossy()))?;
-    let Some(line) = line(args, changes)? else {
+    let Some(line) = line(args, options)? else {
         return Ok(Parsed::Help(text));
     };
-    let mut given = line.operands.into_iter();
+    let mut given = line.operands.iter();
     let image = given.next().ok_or_else(|| format!("{name}: IMAGE is missing"))?.into();
     let mut numbers = Vec::new();
     for operand in operands {
@@ -75,18 +68,19 @@ pub fn parse(args: impl IntoIterator<Item = OsString>) -> Result<Parsed, String>
     if let Some(extra) = given.next() {
         return Err(format!("{name}: '{}' is one operand too many", extra.to_string_lossy()));
     }
-    let command = command(name, &numbers, line.change);
+    let command = command(name, &numbers, &line);
     Ok(Parsed::Run(Options { json: line.json, image, command }))
 }
 
-fn command(name: &str, numbers: &[u64], change: Change) -> Command {
+fn command(name: &str, numbers: &[u64], line: &Line) -> Command {
+    let &Line { allowance, force, .. } = line;
     match (name, numbers) {
         ("info", _) => Command::Info,
         ("check", _) => Command::Check,
-        ("repair", _) => Command::Repair(change),
+        ("repair", _) => Command::Repair { allowance, force },
         ("read", &[offset, length]) => Command::Read { offset, length },
-        ("write", &[offset]) => Command::Write { offset, change },
-        ("discard", &[offset, length]) => Command::Discard { offset, length, change },
+        ("write", &[offset]) => Command::Write { offset, allowance },
+        ("discard", &[offset, length]) => Command::Discard { offset, length, allowance },
         _ => Command::Map,
     }
 }
@@ -94,13 +88,16 @@ fn command(name: &str, numbers: &[u64], change: Change) -> Command {
 struct Line {
     operands: Vec<OsString>,
     json: bool,
-    change: Change,
+    allowance: u64,
+    force: bool,
 }
 
 /// Operands and options; None if help is asked for.
-fn line(mut args: impl Iterator<Item = OsString>, changes: bool) -> Result<Option<Line>, String> {
-    let change = Change { allowance: u64::MAX, force: false };
-    let mut line = Line { operands: Vec::new(), json: false, change };
+fn line(
+    mut args: impl Iterator<Item = OsString>,
+    options: &[&str],
+) -> Result<Option<Line>, String> {
+    let mut line = Line { operands: Vec::new(), json: false, allowance: u64::MAX, force: false };
     while let Some(arg) = args.next() {
         match arg.to_str() {
             Some("--") => {
@@ -109,11 +106,11 @@ fn line(mut args: impl Iterator<Item = OsString>, changes: bool) -> Result<Optio
             }
             Some("--help" | "-h") => return Ok(None),
             Some("--json") => line.json = true,
-            Some("--force") if changes => line.change.force = true,
-            Some("--allowance") if changes => {
+            Some("--force") if options.contains(&"--force") => line.force = true,
+            Some("--allowance") if options.contains(&"--allowance") => {
                 let value = args.next().ok_or("--allowance: the number of units is missing")?;
                 let value = number::parse(&value.to_string_lossy());
-                line.change.allowance = value.map_err(|fault| format!("--allowance: {fault}"))?;
+                line.allowance = value.map_err(|fault| format!("--allowance: {fault}"))?;
             }
             Some(option) if option.len() > 1 && option.starts_with('-') => {
                 return Err(format!("there is no option '{option}' here"));
@@ -137,19 +134,18 @@ mod tests {
 
     #[test]
     fn commands() {
-        let plain = Change { allowance: u64::MAX, force: false };
         let options = run("read a.qcow2 0x10 4k --json").unwrap();
         assert!(options.json && options.image.as_os_str() == "a.qcow2");
         assert_eq!(options.command, Command::Read { offset: 16, length: 4096 });
         let options = run("write --allowance 514 -- --odd-name 33285").unwrap();
         assert_eq!(options.image.as_os_str(), "--odd-name");
-        let cut = Change { allowance: 514, force: false };
-        assert_eq!(options.command, Command::Write { offset: 33_285, change: cut });
+        assert_eq!(options.command, Command::Write { offset: 33_285, allowance: 514 });
         assert!(!options.json);
         let command = run("discard a 1M 512").unwrap().command;
-        assert_eq!(command, Command::Discard { offset: 1 << 20, length: 512, change: plain });
-        let forced = Change { allowance: u64::MAX, force: true };
-        assert_eq!(run("repair --force a").unwrap().command, Command::Repair(forced));
+        let allowance = u64::MAX;
+        assert_eq!(command, Command::Discard { offset: 1 << 20, length: 512, allowance });
+        let command = run("repair --force a").unwrap().command;
+        assert_eq!(command, Command::Repair { allowance, force: true });
         assert_eq!(run("info a").unwrap().command, Command::Info);
         assert_eq!(run("check a").unwrap().command, Command::Check);
         assert_eq!(run("map -").unwrap().command, Command::Map);
@@ -163,18 +159,22 @@ mod tests {
         assert_eq!(fault("info"), "info: IMAGE is missing");
         assert_eq!(fault("read a 0"), "read: LENGTH is missing");
         assert_eq!(fault("check a b"), "check: 'b' is one operand too many");
-        assert_eq!(fault("check a --force"), "there is no option '--force' here");
+        for line in ["check a --force", "write a 0 --force", "discard a 0 512 --force"] {
+            assert_eq!(fault(line), "there is no option '--force' here");
+        }
         assert!(fault("write a x").starts_with("write: OFFSET: 'x' is no number"));
         assert!(fault("write a 0 --allowance").contains("missing"));
     }
 
     #[test]
     fn every_command_has_help() {
-        for (name, _, changes, text) in COMMANDS {
+        for (name, _, options, text) in COMMANDS {
             let asked = parse([name, "--help"].map(OsString::from));
             assert!(matches!(asked, Ok(Parsed::Help(found)) if found == text));
             assert!(text.starts_with(&format!("qstore {name} IMAGE")));
-            assert_eq!(text.contains("--allowance"), changes);
+            for option in ["--allowance", "--force"] {
+                assert_eq!(text.contains(option), options.contains(&option));
+            }
             assert!(help::MAIN.contains(&format!("qstore {name} ")));
         }
     }

@@ -25,11 +25,18 @@ impl Call<'_> {
         }
     }
 
-    /// See [`cuts`].
-    pub fn cuts(&self, bits: u32, units: u64) -> Option<Vec<u64>> {
-        match self {
-            Call::Write { .. } => cuts::of_write(1 << bits, units),
-            Call::Discard { .. } => cuts::of_discard(units),
+    /// The ends of the kinds in the call's list, see [`cuts`]; does the list
+    /// begin with the clearing unit?
+    pub fn cuts(&self, bits: u32, units: u64, clears: bool) -> Option<Vec<u64>> {
+        let others = units.checked_sub(clears.into())?;
+        let cuts = match self {
+            Call::Write { .. } => cuts::of_write(1 << bits, others),
+            Call::Discard { .. } => cuts::of_discard(others),
+        };
+        if clears {
+            cuts.and_then(cuts::after_clearing)
+        } else {
+            cuts
         }
     }
 }

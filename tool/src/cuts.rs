@@ -5,6 +5,7 @@
 use std::ops::Range;
 
 use crate::layout::Layout;
+use crate::places;
 
 /// The ends of the kinds in a write's list, the last being its length; None if
 /// no write has a list of that length.
@@ -34,6 +35,13 @@ pub fn of_discard(units: u64) -> Option<Vec<u64>> {
     (units <= 2).then(|| (1..=units).collect())
 }
 
+/// The list with these ends after the unit that clears the autoclear bits, a
+/// kind of its own; None for an empty list, which has no such unit.
+pub fn after_clearing(cuts: Vec<u64>) -> Option<Vec<u64>> {
+    let later = cuts.iter().map(|cut| cut + 1);
+    (!cuts.is_empty()).then(|| [1].into_iter().chain(later).collect())
+}
+
 /// The cuts below the allowance, then the allowance or the end, whichever
 /// comes first.
 pub fn within(mut cuts: Vec<u64>, allowance: u64) -> Vec<u64> {
@@ -44,7 +52,8 @@ pub fn within(mut cuts: Vec<u64>, allowance: u64) -> Vec<u64> {
     cuts
 }
 
-/// Counts that a repair sets, all in one sector of the file.
+/// Units of a repair, all in one sector of the file: counts that it sets, or
+/// the clearing one.
 #[derive(Debug, PartialEq)]
 pub struct Batch {
     pub sector: Range<usize>,
@@ -63,6 +72,9 @@ pub const SECTOR: usize = 512;
 /// of the list: those of the sectors before, and of this one all or none.
 pub fn of_repair(layout: &Layout, before: &[u8], after: &[u8]) -> Vec<Batch> {
     let mut batches: Vec<Batch> = Vec::new();
+    if places::cleared(before, after) {
+        batches.push(Batch { sector: 0..SECTOR, units: 1 });
+    }
     for cluster in 0..layout.clusters {
         if layout.count(before, cluster) == layout.count(after, cluster) {
             continue;
@@ -99,6 +111,18 @@ mod tests {
         assert_eq!(of_discard(0), Some(vec![]));
         assert_eq!(of_discard(2), Some(vec![1, 2]));
         assert_eq!(of_discard(3), None);
+    }
+
+    #[test]
+    fn lists_after_the_clearing_unit() {
+        let cuts = |units| of_write(512, units).and_then(after_clearing);
+        assert_eq!(cuts(0), None);
+        assert_eq!(cuts(1), Some(vec![1, 2]));
+        assert_eq!(cuts(512), Some(vec![1, 513]));
+        assert_eq!(cuts(513), Some(vec![1, 513, 514]));
+        assert_eq!(cuts(514), Some(vec![1, 2, 514, 515]));
+        assert_eq!(cuts(1028), Some(vec![1, 2, 514, 515, 1027, 1028, 1029]));
+        assert_eq!(of_discard(2).and_then(after_clearing), Some(vec![1, 2, 3]));
     }
 
     #[test]

@@ -1,6 +1,8 @@
 //! The header's fields as they stand, judged by nobody: for messages, and for
 //! the layout of an image that the core has accepted.
 
+use std::ops::Range;
+
 /// The longest image that is accepted.
 pub const MAX_IMAGE: u64 = 67_108_864;
 pub const MAX_DISK: u64 = 1 << 40;
@@ -15,6 +17,9 @@ pub const PLACE: u64 = 0x00FF_FFFF_FFFF_FE00;
 pub const USED: u64 = 1 << 63;
 /// Bit 62 of an L2 entry.
 pub const COMPRESSED: u64 = 1 << 62;
+
+/// The bytes of autoclear_features.
+pub const AUTOCLEAR: Range<usize> = 88..96;
 
 #[derive(Clone, Copy, Debug, PartialEq)]
 pub struct Fields {
@@ -64,7 +69,7 @@ impl Fields {
             table_clusters: be32(bytes, 56)?,
             snapshots: be32(bytes, 60)?,
             incompatible: newer(be64(bytes, 72)?, 0),
-            autoclear: newer(be64(bytes, 88)?, 0),
+            autoclear: newer(be64(bytes, AUTOCLEAR.start)?, 0),
             order: newer(be32(bytes, 96)?.into(), 4) as u32,
             header_length: newer(be32(bytes, 100)?.into(), HEADER_LENGTH.into()) as u32,
         })

@@ -47,11 +47,12 @@ qstore repair IMAGE [--json] [--allowance U] [--force]
 
 Sets the count of each leaked cluster to its references, so that it is free
 again. Guest bytes do not change. A damaged image is refused (17) and left as
-it is.
+it is. So is a leaking one with autoclear_features: what looks leaked may be
+theirs, such as the clusters of qemu's persistent bitmaps.
 
   --allowance U  stop after U units, as a power cut would
-  --force        change an image although autoclear_features is not 0;
-                 persistent bitmaps of qemu would be lost
+  --force        repair it although autoclear_features is not 0; they are
+                 cleared first, and persistent bitmaps are lost
 
 Exit: 0 sound afterwards, 1 failed, refused or stopped, 2 damaged.
 ";
@@ -77,7 +78,7 @@ Exit: 0, or 1 if failed or refused.
 ";
 
 pub const WRITE: &str = "\
-qstore write IMAGE OFFSET [--json] [--allowance U] [--force]
+qstore write IMAGE OFFSET [--json] [--allowance U]
 
 Writes standard input to the guest bytes from OFFSET on, guest cluster by guest
 cluster. The whole request is tried in memory first: if any part is refused,
@@ -85,23 +86,25 @@ the file is not changed. The changes reach the file in the order of the core's
 list, each kind of unit flushed before the next, so that a power cut leaves an
 image that is sound or leaks.
 
+autoclear_features are cleared first: qemu then no longer uses persistent
+bitmaps, which would lack the change.
+
   --allowance U  stop after U units, as a power cut would
-  --force        change an image although autoclear_features is not 0;
-                 persistent bitmaps of qemu would be wrong afterwards
 
 Exit: 0 finished, 1 failed, refused or stopped, 2 the image is damaged.
 ";
 
 pub const DISCARD: &str = "\
-qstore discard IMAGE OFFSET LENGTH [--json] [--allowance U] [--force]
+qstore discard IMAGE OFFSET LENGTH [--json] [--allowance U]
 
 Gives whole guest clusters back; they read as zeros afterwards. OFFSET has to be
 a multiple of the cluster size, and so has LENGTH unless the range ends with
 the disk. L2 tables are kept.
 
+autoclear_features are cleared first: qemu then no longer uses persistent
+bitmaps, which would lack the change.
+
   --allowance U  stop after U units, as a power cut would
-  --force        change an image although autoclear_features is not 0;
-                 persistent bitmaps of qemu would be wrong afterwards
 
 Exit: 0 finished, 1 failed, refused or stopped, 2 the image is damaged.
 ";

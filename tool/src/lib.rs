@@ -5,6 +5,7 @@
 #![forbid(unsafe_code)]
 
 pub mod args;
+pub mod autoclear;
 pub mod call;
 pub mod commands;
 pub mod cuts;

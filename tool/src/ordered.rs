@@ -5,8 +5,8 @@
 //! again from the image as it was on entry, with the allowance of each cut in
 //! turn, and what differs goes to the file and is flushed before the next. So a
 //! power cut leaves the units up to the last cut, and of the next kind:
-//! - one count or entry: stored or not, since a sector is stored whole or not
-//!   at all, and neither ever lies over a sector's end;
+//! - the autoclear bits, one count or one entry: stored or not, since a sector
+//!   is stored whole or not at all, and none ever lies over a sector's end;
 //! - bytes of a fill: any of them, since a drive has its own order for sectors.
 //!   A fill goes to a cluster that nothing refers to or that has the zero mark,
 //!   where no read sees it; or it is data in place, where each byte is old or
@@ -92,7 +92,8 @@ impl<D: Disk> Ordered<D> {
         let guest = call.guest_cluster(self.layout.bits);
         let touched = places::touched(&self.layout, &self.held, &self.work, guest);
         let entry: Vec<Vec<u8>> = touched.iter().map(|at| self.held[at.clone()].to_vec()).collect();
-        let cuts = call.cuts(self.layout.bits, units).ok_or(Fault::Unexpected(units))?;
+        let clears = places::cleared(&self.held, &self.work);
+        let cuts = call.cuts(self.layout.bits, units, clears).ok_or(Fault::Unexpected(units))?;
         for cut in cuts::within(cuts, allowance) {
             for (range, bytes) in touched.iter().zip(&entry) {
                 self.work[range.clone()].copy_from_slice(bytes);

@@ -12,6 +12,7 @@ use qcow2_core::{check, read, translate, Found, Outcome, Verdict};
 use qstore::call::Call;
 use qstore::layout::Layout;
 use qstore::ordered::{Fault, Ordered};
+use qstore::places::cleared;
 
 fn verdict(image: &[u8]) -> Verdict {
     check(image, &mut vec![0; image.len() / 512])
@@ -21,6 +22,13 @@ fn guest(image: &[u8], size: u64) -> Vec<u8> {
     let mut bytes = vec![0; size as usize];
     read(image, 0, &mut bytes).expect("an accepted read");
     bytes
+}
+
+/// At times sets autoclear bits, where the image has a field for them.
+fn set_bits(image: &mut [u8], layout: &Layout, random: &mut Random) {
+    if layout.version == 3 && random.below(2) == 1 {
+        image[88 + random.below(8)] = 1 + random.below(255) as u8;
+    }
 }
 
 /// One call on a drive; every state on the way, then the image afterwards.
@@ -41,10 +49,16 @@ fn follow(image: &[u8], call: Call, random: &mut Random) -> Vec<u8> {
     let drive = ordered.into_disk();
     assert!(drive.open.is_empty(), "something was not flushed");
     let (old, new) = (guest(image, layout.size), guest(&wanted, layout.size));
-    let counts =
-        matches!(outcome, Outcome::Finished(units) if stores_a_count(&call, &layout, units));
+    let Outcome::Finished(units) = outcome else { panic!("{outcome:?}") };
+    let others = units - u64::from(cleared(image, &wanted));
+    let counts = stores_a_count(&call, &layout, others);
     let mut state = image.to_vec();
     for stores in &drive.epochs {
+        // The autoclear bits go first and alone.
+        let in_header = stores.iter().filter(|store| store.0 < 512).count();
+        let clears = cleared(&state, &wanted);
+        assert_eq!(in_header, clears.into());
+        assert!(!clears || stores.len() == 1);
         let mut states = torn(&state, stores, random);
         put(&mut state, &sectors(stores));
         states.push(state.clone());
@@ -91,6 +105,7 @@ fn a_cut_anywhere_leaves_a_promised_image() {
         let offsets = (0..layout.size).step_by(layout.cluster());
         let zeros: Vec<u64> = offsets.filter(|&at| translate(&image, at) == Found::Zeros).collect();
         for offset in zeros {
+            set_bits(&mut image, &layout, &mut random);
             let data = vec![7; 1 + random.below(300)];
             let call = Call::Write { offset: offset + 100, data: &data };
             if call.run(&mut image.clone(), 0) != Outcome::Refused(14) {
@@ -99,7 +114,9 @@ fn a_cut_anywhere_leaves_a_promised_image() {
         }
         for _ in 0..24 {
             let cluster = random.below(layout.guest_clusters() as usize) as u64;
+            set_bits(&mut image, &layout, &mut random);
             image = follow(&image, Call::Discard { cluster }, &mut random);
+            set_bits(&mut image, &layout, &mut random);
             let offset = random.below(layout.size as usize);
             let room =
                 (layout.cluster() - offset % layout.cluster()).min(layout.size as usize - offset);
@@ -115,21 +132,28 @@ fn a_cut_anywhere_leaves_a_promised_image() {
 /// The stores of the first write on the bench image, each kind flushed.
 #[test]
 fn kinds_of_units_are_flushed_in_order() {
-    let image = bench_image();
-    let mut ordered = Ordered::new(Drive::default(), Layout::of(&image).unwrap(), image);
-    let call = Call::Write { offset: 33_285, data: b"hello" };
-    assert_eq!(ordered.call(&call, u64::MAX).unwrap(), Outcome::Finished(1028));
-    let epochs = ordered.into_disk().epochs;
-    let stores: Vec<usize> = epochs.iter().flatten().map(|store| store.0).collect();
-    // Table's count, count, data, L2 entry, L1 entry; the table is zero already.
-    assert_eq!(stores, [1024 + 9, 1024 + 11, 2565, 2056, 1544]);
-    assert!(epochs.iter().all(|stores| stores.len() == 1));
+    for bits in [0, 1] {
+        let mut image = bench_image();
+        image[95] = bits;
+        let mut ordered = Ordered::new(Drive::default(), Layout::of(&image).unwrap(), image);
+        let call = Call::Write { offset: 33_285, data: b"hello" };
+        let units = 1028 + u64::from(bits);
+        assert_eq!(ordered.call(&call, u64::MAX).unwrap(), Outcome::Finished(units));
+        let epochs = ordered.into_disk().epochs;
+        let stores: Vec<usize> = epochs.iter().flatten().map(|store| store.0).collect();
+        // Autoclear bits, table's count, count, data, L2 entry, L1 entry; the
+        // table is zero already.
+        let wanted = [95, 1024 + 9, 1024 + 11, 2565, 2056, 1544];
+        assert_eq!(stores, wanted[usize::from(bits == 0)..]);
+        assert!(epochs.iter().all(|stores| stores.len() == 1));
+    }
 }
 
 #[test]
 fn a_drive_that_fails_leaves_the_first_units() {
-    for left in 0..10 {
-        let image = bench_image();
+    for left in 0..12 {
+        let mut image = bench_image();
+        image[95] = 1;
         let drive = Drive { left: Some(left), ..Drive::default() };
         let mut ordered = Ordered::new(drive, Layout::of(&image).unwrap(), image.clone());
         let call = Call::Write { offset: 33_285, data: b"hello" };

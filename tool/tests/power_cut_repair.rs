@@ -64,28 +64,48 @@ fn leaking() -> (Vec<u8>, u64) {
 fn each_flush_is_a_prefix_of_the_list() {
     let (image, leaks) = leaking();
     for allowance in [u64::MAX, leaks, leaks - 1, 200, 1, 0] {
-        assert_eq!(check(&image, &mut [0; 1200]), Verdict::Leaks(leaks));
-        let drive = Drive { image: image.clone(), open: vec![], flushed: vec![] };
-        let mut ordered = Ordered::new(drive, Layout::of(&image).unwrap(), image.clone());
-        let mut spent = vec![];
-        let outcome = ordered.repair(allowance, |done, total| {
-            assert_eq!(total, leaks);
-            spent.push(done);
-        });
-        let mut wanted = image.clone();
-        assert_eq!(outcome.unwrap(), repair(&mut wanted, &mut [0; 1200], allowance));
-        assert!(ordered.is_in_step() && ordered.image() == wanted);
-        spent.dedup();
-        spent.retain(|&units| units > 0);
-        let flushed = ordered.into_disk().flushed;
-        assert_eq!(flushed.len(), spent.len());
-        assert!(flushed.len() <= 5);
-        for (state, units) in flushed.iter().zip(spent) {
-            let mut prefix = image.clone();
-            repair(&mut prefix, &mut [0; 1200], units);
-            assert!(*state == prefix, "after {units} units");
-        }
+        flushes(&image, leaks, leaks, allowance);
     }
+}
+
+/// The autoclear bits are cleared first, by a flush of their own.
+#[test]
+fn the_clearing_unit_is_the_first() {
+    let (mut image, leaks) = leaking();
+    image[90] = 5;
+    for allowance in [u64::MAX, leaks + 1, leaks, 200, 2, 1, 0] {
+        let flushed = flushes(&image, leaks, leaks + 1, allowance);
+        let changed = |state: &[u8]| (0..state.len()).filter(|&at| state[at] != image[at]).count();
+        assert_eq!(flushed.is_empty(), allowance == 0);
+        assert!(flushed.first().is_none_or(|state| state[90] == 0 && changed(state) == 1));
+    }
+}
+
+/// Repairs an image with these leaks by a list of these units; the states that
+/// were flushed.
+fn flushes(image: &[u8], leaks: u64, units: u64, allowance: u64) -> Vec<Vec<u8>> {
+    assert_eq!(check(image, &mut [0; 1200]), Verdict::Leaks(leaks));
+    let drive = Drive { image: image.to_vec(), open: vec![], flushed: vec![] };
+    let mut ordered = Ordered::new(drive, Layout::of(image).unwrap(), image.to_vec());
+    let mut spent = vec![];
+    let outcome = ordered.repair(allowance, |done, total| {
+        assert_eq!(total, units);
+        spent.push(done);
+    });
+    let mut wanted = image.to_vec();
+    assert_eq!(outcome.unwrap(), repair(&mut wanted, &mut [0; 1200], allowance));
+    assert!(ordered.is_in_step() && ordered.image() == wanted);
+    spent.dedup();
+    spent.retain(|&units| units > 0);
+    let flushed = ordered.into_disk().flushed;
+    assert_eq!(flushed.len(), spent.len());
+    assert!(flushed.len() <= 6);
+    for (state, units) in flushed.iter().zip(spent) {
+        let mut prefix = image.to_vec();
+        repair(&mut prefix, &mut [0; 1200], units);
+        assert!(*state == prefix, "after {units} units");
+    }
+    flushed
 }
 
 #[test]

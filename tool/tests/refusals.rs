@@ -133,15 +133,48 @@ fn files_that_are_too_long() {
     assert!(copy.run("info IMAGE").error.contains("refused (9)"));
 }
 
+/// A leaked cluster may be a bitmap's: only a forced repair frees it.
 #[test]
-fn bitmaps_are_not_lost_by_accident() {
-    let copy = with("autoclear", &|image| image[95] = 1);
-    for line in ["write IMAGE 0", "discard IMAGE 0 512", "repair IMAGE"] {
-        let answer = unchanged(&copy, line, b"x");
-        assert_eq!(answer.exit, 1, "{line}");
-        assert!(answer.error.contains("persistent bitmaps"), "{}", answer.error);
-        assert_eq!(copy.feed(&format!("{line} --force"), b"x").exit, 0);
+fn bitmaps_are_not_repaired_away_by_accident() {
+    for (bits, sentence) in [(1, "0x1 (persistent bitmaps)"), (2, "0x2, and what looks leaked")] {
+        let copy = with("autoclear", &|image| (image[95], image[1024 + 9]) = (bits, 1));
+        let answer = unchanged(&copy, "repair IMAGE", &[]);
+        assert_eq!(answer.exit, 1);
+        assert!(answer.error.contains("not changed: autoclear_features is "), "{}", answer.error);
+        assert!(answer.error.contains(sentence), "{}", answer.error);
+        let check = unchanged(&copy, "check IMAGE", &[]);
+        assert_eq!(check.exit, 3);
+        assert!(check.text.contains("Do not repair it while"), "{}", check.text);
     }
+    // Where nothing looks leaked, there is nothing to guard.
+    let copy = with("autoclear-sound", &|image| image[95] = 1);
+    assert_eq!(unchanged(&copy, "repair IMAGE", &[]).text, "sound, nothing to repair\n");
+    let copy = with("autoclear-damaged", &|image| (image[95], image[1024 + 3]) = (1, 0));
+    refused(&copy, "repair IMAGE", &[], 17, "stored count is 0");
+    refused(&copy, "repair IMAGE --force", &[], 17, "stored count is 0");
+}
+
+/// Requests that store nothing leave the autoclear bits.
+#[test]
+fn autoclear_bits_are_left() {
+    let copy = with("autoclear-left", &|image| image[88] = 1);
+    for (line, exit) in [
+        ("write IMAGE 0", 0),
+        ("discard IMAGE 0 64k", 0),
+        ("repair IMAGE", 0),
+        ("info IMAGE", 0),
+        ("check IMAGE", 0),
+        ("write IMAGE 65537", 1),
+        ("discard IMAGE 0 64k --allowance 0", 0),
+    ] {
+        let answer = unchanged(&copy, line, &[]);
+        assert_eq!(answer.exit, exit, "{line}");
+        assert!(!answer.text.contains("cleared"), "{line}");
+    }
+    let info = unchanged(&copy, "info IMAGE", &[]).text;
+    assert!(info.contains("\nautoclear_features: 0x100000000000000\n"), "{info}");
+    let answer = unchanged(&copy, "write IMAGE 0 --allowance 0", b"x");
+    assert_eq!(answer.text, "stopped after 0 of 1029 units\n");
 }
 
 #[test]

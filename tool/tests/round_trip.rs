@@ -71,6 +71,42 @@ fn cut_check_repair_read() {
     }
 }
 
+/// The autoclear bits are cleared by the first unit of the first call, which
+/// the command says.
+#[test]
+fn autoclear_bits_are_cleared_first() {
+    let image = || {
+        let mut image = bench_image();
+        image[95] = 1;
+        image
+    };
+    let note = "  autoclear_features was 0x1 (persistent bitmaps) and is cleared: qemu no longer \
+                uses the bitmaps.\n";
+    let copy = Copy::with(&image(), "clear-cut");
+    let stopped = copy.feed("write IMAGE 33285 --allowance 1", b"hello");
+    assert_eq!(stopped.text, format!("stopped after 1 of 1029 units\n{note}"));
+    assert!(copy.bytes() == bench_image());
+    let copy = Copy::with(&image(), "clear");
+    let answer = copy.feed("write IMAGE 33270", &data(20, 1));
+    assert_eq!(answer.text, format!("wrote 20 bytes at 33270: {} units\n{note}", 1029 + 514));
+    let answer = copy.feed("write IMAGE 33270", &data(20, 2));
+    assert_eq!(answer.text, "wrote 20 bytes at 33270: 20 units\n");
+    let mut memory = copy.bytes();
+    (memory[95], memory[1024 + 19]) = (3, 1);
+    let copy = Copy::with(&memory, "clear-discard");
+    let answer = copy.run("discard IMAGE 33280 512 --json");
+    assert!(answer.text.contains("\"units\": 3,"), "{}", answer.text);
+    assert!(answer.text.contains("\"autoclear_cleared\": 3"), "{}", answer.text);
+    let copy = Copy::with(&memory, "clear-repair");
+    let answer = copy.run("repair IMAGE --force --allowance 1 --json");
+    assert!(answer.text.contains("\"units\": 1,"), "{}", answer.text);
+    assert_eq!(copy.run("repair IMAGE").text, "repaired: 1 counts set, the image is sound\n");
+    let copy = Copy::with(&memory, "clear-forced");
+    let answer = copy.run("repair IMAGE --force");
+    assert!(answer.text.starts_with("repaired: 1 counts set, the image is sound\n  autoclear"));
+    assert_eq!(copy.run("check IMAGE").exit, 0);
+}
+
 #[test]
 fn leaking_images_are_repaired() {
     for image in ["30-leak-free-cluster.qcow2", "31-leak-two-v2.qcow2", "32-leak-cut-write.qcow2"] {

@@ -1,13 +1,14 @@
 //! Ways to make an image leak, or to damage it so that its header is still
 //! accepted.
 
-use crate::image::{Made, USED};
+use crate::image::{Made, AUTOCLEAR, USED};
+use crate::plan::Plan;
 use crate::rng::Rng;
 
 pub type Damage = fn(&mut Made, &mut Rng);
 
 /// Every kind; the first two only make leaks or use up room.
-pub const ALL: [Damage; 14] = [
+pub const ALL: [Damage; 15] = [
     leak,
     fill_up,
     short,
@@ -18,6 +19,7 @@ pub const ALL: [Damage; 14] = [
     alias_l1,
     alias_l2,
     move_l1,
+    l1_on_header,
     alias_block,
     entries_in_block,
     table_in_block,
@@ -102,6 +104,25 @@ pub fn move_l1(made: &mut Made, rng: &mut Rng) {
     let place = any_cluster(made, rng) << made.cluster_bits;
     if place + 8 * made.l1_size <= made.bytes.len() {
         made.put64(40, place as u64);
+    }
+}
+
+/// The L1 table on the header, with the entry for an L2 table where the
+/// autoclear bits stand.
+pub fn l1_on_header(made: &mut Made, rng: &mut Rng) {
+    let index = AUTOCLEAR / 8;
+    let l1_size = made.l1_size.max(index + 1);
+    made.size = made.size.max(Plan::reach(made.cluster_bits, index + 1));
+    made.put64(24, made.size);
+    made.put32(36, l1_size as u32);
+    made.put64(40, 0);
+    let place = match made.tables.is_empty() {
+        true => any_cluster(made, rng) << made.cluster_bits,
+        false => rng.pick(&made.tables).1,
+    };
+    if place != 0 {
+        made.put64(AUTOCLEAR, USED | place as u64);
+        made.tables.push((index, place));
     }
 }
 

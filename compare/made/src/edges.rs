@@ -16,7 +16,7 @@ pub fn all() -> Vec<(Vec<u8>, u32)> {
 
 fn plan(cluster_bits: u32, l1_size: usize, spare: usize) -> Plan {
     let size = Plan::reach(cluster_bits, l1_size);
-    Plan { version: 3, cluster_bits, size, l1_size, spare, longer_table: 0 }
+    Plan { version: 3, cluster_bits, size, l1_size, spare, longer_table: 0, autoclear: 0 }
 }
 
 fn changed(made: &Made, change: impl Fn(&mut Made)) -> Vec<u8> {

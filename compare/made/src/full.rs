@@ -22,6 +22,7 @@ pub fn empty(cluster_bits: u32, guest: usize) -> Made {
         l1_size,
         spare: clusters - fixed,
         longer_table: 0,
+        autoclear: 0,
     };
     let made = plan.build_in_order(&mut Rng::new(1));
     assert_eq!(made.bytes.len(), LENGTH);

@@ -5,6 +5,8 @@
 use crate::rng::Rng;
 
 pub const USED: u64 = 1 << 63;
+/// The place of autoclear_features.
+pub const AUTOCLEAR: usize = 88;
 
 #[derive(Clone)]
 pub struct Made {
@@ -68,6 +70,12 @@ impl Made {
 
     pub fn get64(&self, at: usize) -> u64 {
         u64::from_be_bytes(self.bytes[at..at + 8].try_into().unwrap())
+    }
+
+    /// Units in front of a list that is not empty: 1 where the autoclear field
+    /// is to be cleared.
+    pub fn clearing(&self) -> u64 {
+        u64::from(self.version == 3 && self.get64(AUTOCLEAR) != 0)
     }
 
     fn count_at(&self, cluster: usize) -> usize {

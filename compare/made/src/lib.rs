@@ -4,6 +4,7 @@
 
 pub mod bench_suite;
 pub mod breaks;
+pub mod clearing;
 pub mod damage;
 pub mod drive;
 pub mod edges;

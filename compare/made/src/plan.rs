@@ -1,6 +1,6 @@
 //! Plans of valid images, and the images made from them.
 
-use crate::image::Made;
+use crate::image::{Made, AUTOCLEAR};
 use crate::rng::Rng;
 
 const MAX_IMAGE: usize = 64 << 20;
@@ -18,6 +18,8 @@ pub struct Plan {
     pub spare: usize,
     /// Refcount table clusters beyond those that the blocks need.
     pub longer_table: usize,
+    /// Bytes 88 to 95, which version 2 has no field in.
+    pub autoclear: u64,
 }
 
 impl Plan {
@@ -50,6 +52,7 @@ impl Plan {
             l1_size,
             spare,
             longer_table: if rng.once_in(4) { 1 + rng.index(3) } else { 0 },
+            autoclear: random_autoclear(rng),
         }
     }
 
@@ -120,9 +123,16 @@ impl Plan {
             entries: Vec::new(),
         };
         write_header(&mut made);
+        made.put64(AUTOCLEAR, self.autoclear);
         write_tables(&mut made);
         made
     }
+}
+
+/// None, one at either end, one of all, or any.
+fn random_autoclear(rng: &mut Rng) -> u64 {
+    let (one, any) = (1 << rng.below(64), rng.number());
+    rng.pick(&[0, 0, 1, 1 << 63, one, any])
 }
 
 /// Whole sectors; where clusters are longer than these, most often not whole

@@ -5,6 +5,7 @@ use answers::{Outcome, Verdict};
 
 use crate::entries::Rules;
 use crate::header::{be64, Header};
+use crate::list::List;
 
 /// Counts the references into `scratch` and judges the stored counts by them.
 pub fn check(image: &[u8], scratch: &mut [u8]) -> Verdict {
@@ -23,9 +24,13 @@ pub fn repair(image: &mut [u8], scratch: &mut [u8], allowance: u64) -> Outcome {
         Ok((header, Verdict::Leaks(leaks))) => (header, leaks),
         Ok(_) => return Outcome::Refused(17),
     };
-    store_references(&header, image, scratch, allowance.min(leaks));
-    if leaks <= allowance {
-        Outcome::Finished(leaks)
+    let clearing = List::clearing(&header);
+    clearing.apply(image, allowance);
+    let left = allowance.saturating_sub(clearing.units());
+    store_references(&header, image, scratch, left.min(leaks));
+    let units = clearing.units() + leaks;
+    if units <= allowance {
+        Outcome::Finished(units)
     } else {
         Outcome::Stopped(allowance)
     }

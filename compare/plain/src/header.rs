@@ -6,6 +6,8 @@ const MAX_IMAGE: usize = 64 << 20;
 const MAX_DISK: u64 = 1 << 40;
 const MAX_L1: u64 = 4096;
 const SECTOR: u64 = 512;
+/// The place of autoclear_features.
+pub(crate) const AUTOCLEAR: usize = 88;
 
 pub(crate) fn be16(image: &[u8], at: usize) -> u16 {
     u16::from_be_bytes(image[at..at + 2].try_into().unwrap())
@@ -24,6 +26,8 @@ pub(crate) struct Header {
     pub version: u32,
     pub cluster_bits: u32,
     pub size: u64,
+    /// Version 3; 0 in version 2, which has no such field.
+    pub autoclear: u64,
     pub l1_size: usize,
     pub l1_at: usize,
     pub table_at: usize,
@@ -147,6 +151,7 @@ fn tables(
         version,
         cluster_bits,
         size,
+        autoclear: if version == 3 { be64(image, AUTOCLEAR) } else { 0 },
         l1_size: l1_size as usize,
         l1_at: l1_at as usize,
         table_at: table_at as usize,

@@ -3,6 +3,8 @@
 
 use answers::Outcome;
 
+use crate::header::{Header, AUTOCLEAR};
+
 /// One run of unit stores.
 #[derive(Clone, Copy)]
 pub(crate) enum Store<'a> {
@@ -11,21 +13,42 @@ pub(crate) enum Store<'a> {
     Fill { at: usize, len: usize, start: usize, data: &'a [u8] },
     /// One unit: a stored count.
     Count { at: usize, value: u16 },
-    /// One unit: an L1 or L2 entry.
+    /// One unit: an L1 or L2 entry, or autoclear_features.
     Entry { at: usize, value: u64 },
 }
 
-/// At most six runs: a write with a new L2 table has that many.
+/// A write with a new L2 table, after the clearing unit, has the most runs.
+const MOST: usize = 7;
+
 pub(crate) struct List<'a> {
-    stores: [Store<'a>; 6],
+    stores: [Store<'a>; MOST],
     len: usize,
 }
 
 impl<'a> List<'a> {
     pub fn of<const K: usize>(stores: [Store<'a>; K]) -> List<'a> {
-        let mut list = List { stores: [Store::Count { at: 0, value: 0 }; 6], len: K };
+        let mut list = List { stores: [Store::Count { at: 0, value: 0 }; MOST], len: K };
         list.stores[..K].copy_from_slice(&stores);
         list
+    }
+
+    /// The unit that clears autoclear_features; none where they are 0.
+    pub fn clearing(header: &Header) -> List<'a> {
+        match header.autoclear {
+            0 => List::of([]),
+            _ => List::of([Store::Entry { at: AUTOCLEAR, value: 0 }]),
+        }
+    }
+
+    /// This list after the clearing unit; an empty one stays empty.
+    pub fn cleared_first(self, header: &Header) -> List<'a> {
+        if header.autoclear == 0 || self.units() == 0 {
+            return self;
+        }
+        let mut list = List::clearing(header);
+        let len = list.len + self.len;
+        list.stores[list.len..len].copy_from_slice(self.stores());
+        List { len, ..list }
     }
 
     fn stores(&self) -> &[Store<'a>] {

@@ -7,6 +7,7 @@ use answers::{Calls, Outcome, Verdict};
 
 use crate::entries::Rules;
 use crate::header::{be16, be64, Header};
+use crate::list::List;
 use crate::storing::{discard_list, write_list};
 
 /// Disks up to this size are compared by one read of the whole.
@@ -92,7 +93,9 @@ fn settle(image: &[u8], call: Call) -> Settled {
         }
         Call::Repair { scratch } => match crate::check(image, &mut vec![0; scratch]) {
             Verdict::Sound => Ok((0, false)),
-            Verdict::Leaks(leaks) => Ok((leaks, true)),
+            Verdict::Leaks(leaks) => {
+                Header::judge(image).map(|header| (List::clearing(&header).units() + leaks, true))
+            }
             Verdict::Refused(number) => Err(number),
             _ => Err(17),
         },

@@ -25,6 +25,20 @@ pub fn discard(image: &mut [u8], cluster: u64, allowance: u64) -> Outcome {
 
 pub(crate) fn write_list<'a>(image: &[u8], offset: u64, data: &'a [u8]) -> Result<List<'a>, u32> {
     let header = Header::judge(image)?;
+    Ok(write_stores(&header, image, offset, data)?.cleared_first(&header))
+}
+
+pub(crate) fn discard_list(image: &[u8], cluster: u64) -> Result<List<'static>, u32> {
+    let header = Header::judge(image)?;
+    Ok(discard_stores(&header, image, cluster)?.cleared_first(&header))
+}
+
+fn write_stores<'a>(
+    header: &Header,
+    image: &[u8],
+    offset: u64,
+    data: &'a [u8],
+) -> Result<List<'a>, u32> {
     let cluster = header.cluster();
     let start = offset as usize & (cluster - 1);
     if !header.holds(offset, data.len()) || data.len() > cluster - start {
@@ -65,8 +79,7 @@ pub(crate) fn write_list<'a>(image: &[u8], offset: u64, data: &'a [u8]) -> Resul
     }
 }
 
-pub(crate) fn discard_list(image: &[u8], cluster: u64) -> Result<List<'static>, u32> {
-    let header = Header::judge(image)?;
+fn discard_stores(header: &Header, image: &[u8], cluster: u64) -> Result<List<'static>, u32> {
     if cluster >= header.guest_clusters() {
         return Err(11);
     }

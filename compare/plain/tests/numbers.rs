@@ -61,6 +61,7 @@ fn longest_image() {
         l1_size: 4096,
         spare: 1024 - 4,
         longer_table: 0,
+        autoclear: 0,
     };
     let mut made = plan.build(&mut rng);
     assert_eq!((made.bytes.len(), refusal(&made.bytes)), (67_108_864, 0));
@@ -98,8 +99,15 @@ fn tables_at_the_end() {
 /// The last guest cluster may be partly beyond the disk's end.
 #[test]
 fn partial_cluster() {
-    let plan =
-        Plan { version: 3, cluster_bits: 10, size: 65_024, l1_size: 1, spare: 2, longer_table: 0 };
+    let plan = Plan {
+        version: 3,
+        cluster_bits: 10,
+        size: 65_024,
+        l1_size: 1,
+        spare: 2,
+        longer_table: 0,
+        autoclear: 0,
+    };
     let mut made = plan.build(&mut Rng::new(3));
     let image = &mut made.bytes;
     assert_eq!(write(image, 65_023, &[5, 5], u64::MAX), Outcome::Refused(11));

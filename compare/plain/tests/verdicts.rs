@@ -3,7 +3,7 @@
 
 use made::damage::bad_entry;
 use made::drive::sound;
-use made::image::{Made, USED};
+use made::image::{Made, AUTOCLEAR, USED};
 use made::plan::bench_image;
 use made::rng::Rng;
 use plain::{check, difference, repair, translate, Found, Outcome, Verdict};
@@ -36,7 +36,11 @@ fn leaks() {
     let mut rng = Rng::from_env("leaks", 12);
     for _ in 0..IMAGES {
         let mut made = sound(&mut rng);
-        let before = made.bytes.clone();
+        let mut before = made.clone();
+        if made.clearing() == 1 {
+            before.put64(AUTOCLEAR, 0);
+        }
+        let before = before.bytes;
         let mut raised: Vec<usize> = (0..6).map(|_| rng.index(made.clusters())).collect();
         raised.sort_unstable();
         raised.dedup();
@@ -46,15 +50,17 @@ fn leaks() {
         let leaks = raised.len() as u64;
         assert_eq!(verdict(&made), Verdict::Leaks(leaks));
         // Cut, the counts of the lowest clusters are set.
+        let units = made.clearing() + leaks;
         let mut cut = made.clone();
         let scratch = &mut vec![7; made.clusters()];
-        assert_eq!(repair(&mut cut.bytes, scratch, leaks - 1), Outcome::Stopped(leaks - 1));
+        assert_eq!(repair(&mut cut.bytes, scratch, units - 1), Outcome::Stopped(units - 1));
         let last = raised[raised.len() - 1];
         assert_eq!(cut.count(last), made.count(last));
         assert_eq!(repair(&mut cut.bytes, scratch, 1), Outcome::Finished(1));
-        assert!(cut.bytes == before);
-        assert_eq!(repair(&mut made.bytes, scratch, u64::MAX), Outcome::Finished(leaks));
-        assert!(made.bytes == before);
+        assert_eq!(repair(&mut made.bytes, scratch, u64::MAX), Outcome::Finished(units));
+        for image in [&cut.bytes, &made.bytes] {
+            assert!(*image == before);
+        }
     }
 }
 

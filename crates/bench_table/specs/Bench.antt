@@ -3,6 +3,7 @@
 use Prim.Native.Nat.{ℕ, _*_}
 use mathlib.Core.List.{List, _++_}
 use lib.ListN.{replicate}
+use lib.Seq.{sets}
 use Rattle.endian.specs.Big.{bytes16, bytes32, bytes64}
 
 abbrev pub zeros : ℕ → List ℕ
@@ -29,3 +30,7 @@ benchWith bits size rows = header bits size rows ++ body
 
 unfoldable pub bench : List ℕ
 bench = benchWith 9 65536 2
+
+-- the bench image with bit 0 of the autoclear field set (bitmaps), in version 3 or another
+unfoldable pub marked : (version : ℕ) → List ℕ
+marked version = sets (sets bench 4 (bytes32 version)) 88 (bytes64 1)

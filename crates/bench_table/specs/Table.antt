@@ -1,4 +1,5 @@
--- The starred lines of paper 01, "The bench image", and its lines on the header, as one table. It is proved in proofs/Table.antt.
+-- The starred lines of paper 01, "The bench image", its lines on the header, and paper 02's T-03 on that image, as one table. It is proved
+-- in proofs/Table.antt.
 -- Assumes nothing.
 use Prim.Native.Nat.{ℕ}
 use mathlib.Core.Path.{_≡_}
@@ -13,7 +14,7 @@ use Rattle.qcow2_spec.specs.Guest.{guestBytes, readNumber}
 use Rattle.qcow2_spec.specs.Store.{writePlan, discardPlan}
 use Rattle.qcow2_spec.specs.Check.{verdict, repairPlan}
 use Rattle.qcow2_spec.specs.declared.Verdict.the-variants.{Sound, Leaks}
-use Rattle.bench_table.specs.Bench.{bench, benchWith}
+use Rattle.bench_table.specs.Bench.{bench, benchWith, marked}
 
 -- the units of a plan's whole list
 unfoldable pub cost : Plan → ℕ
@@ -80,6 +81,18 @@ pub record Edges (store : Plan → ℕ → List ℕ → List ℕ) (five : List �
   pub write-two : planNumber (writePlan bench 510 (x ∷ y ∷ [])) ≡ 0
   pub write-three : planNumber (writePlan bench 510 (x ∷ y ∷ z ∷ [])) ≡ 11
 
+-- the write where the autoclear field is set: one unit more, which comes first; and calls that store nothing leave it
+pub record Cleared (store : Plan → ℕ → List ℕ → List ℕ) (five : List ℕ) (x y z : ℕ) : Type 0 where
+  pub clear-units : cost (writePlan (marked 3) 33285 five) ≡ 1029
+  pub clear-0 : store (writePlan (marked 3) 33285 five) 0 (marked 3) ≡ marked 3
+  pub clear-1 : store (writePlan (marked 3) 33285 five) 1 (marked 3) ≡ bench
+  pub clear-sound : verdict (store (writePlan (marked 3) 33285 five) 1 (marked 3)) ≡ Sound
+  pub clear-all : store (writePlan (marked 3) 33285 five) 1029 (marked 3) ≡ written store five 1028
+  pub no-bytes : planUnits (writePlan (marked 3) 33285 []) ≡ []
+  pub no-cluster : planUnits (discardPlan (marked 3) 65) ≡ []
+  pub no-leak : planUnits (repairPlan (marked 3) 16) ≡ []
+  pub version-2 : cost (writePlan (marked 2) 33285 five) ≡ 1028
+
 -- the starred lines
 pub record Starred (store : Plan → ℕ → List ℕ → List ℕ) (five : List ℕ) (x y z : ℕ) : Type 0 where
   pub stored : Stored store five x y z
@@ -90,6 +103,7 @@ pub record Starred (store : Plan → ℕ → List ℕ → List ℕ) (five : List
   pub discarded : Discarded store five x y z
   pub full : Full store five x y z
   pub edges : Edges store five x y z
+  pub cleared : Cleared store five x y z
 
 -- the lines on the header
 pub record Headers : Type 0 where

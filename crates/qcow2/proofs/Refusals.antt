@@ -13,7 +13,7 @@ use Rattle.qcow2_spec.specs.declared.Found.the-variants.{Refused}
 use Rattle.qcow2_spec.specs.declared.Verdict.the-variants.{Refused as NotChecked}
 use Rattle.qcow2_spec.specs.Opened.{opened}
 use Rattle.qcow2_spec.specs.Guest.{translate, readNumber, readInto, foundPart, inPlace}
-use Rattle.qcow2_spec.specs.Store.{judged, writePlan, discardPlan}
+use Rattle.qcow2_spec.specs.Store.{clearing, judged, writePlan, discardPlan}
 use Rattle.qcow2_spec.specs.References.{scratchLeft}
 use Rattle.qcow2_spec.specs.Check.{check, repairPlan}
 use Rattle.qcow2_spec.proofs.Open.{refused-is}
@@ -49,7 +49,7 @@ module _ (s : List ℕ) (k : ℕ) (e : opened s ≡ Turned k) where
 
   judged-refused : (p : Plan) → judged s p ≡ refused k
   unfolding judged
-  judged-refused p = rw (refused-is s k e .0) (unless-refused k refused p (refused-is s k e .1))
+  judged-refused p = rw (refused-is s k e .0) (unless-refused k refused (clearing s p) (refused-is s k e .1))
 
   pub write-refused : (x : ℕ) (d : List ℕ) (a : ℕ) → Done (writePlan s x d) a s (NotDone k) s
   unfolding writePlan

@@ -25,7 +25,7 @@ use Rattle.qcow2_spec.specs.declared.Verdict.the-variants.{Refused as NotChecke
 use Rattle.qcow2_spec.specs.Header.{clusterSize, clusters, diskSize}
 use Rattle.qcow2_spec.specs.Opened.{Opened}
 use Rattle.qcow2_spec.specs.Guest.{outside, way}
-use Rattle.qcow2_spec.specs.Store.{judged, writeWay, writePlan, discardWay, discardPlan}
+use Rattle.qcow2_spec.specs.Store.{clearing, judged, writeWay, writePlan, discardWay, discardPlan}
 use Rattle.qcow2_spec.specs.References.{references, figuresOf, scratchAfter, scratchLeft}
 use Rattle.qcow2_spec.specs.Check.{verdict, check, verdictPlan, repairPlan}
 
@@ -41,10 +41,10 @@ module _ (g : Geometry) (s : List ℕ) (o : Opened g s) where
     check-room h = rw (o .accepted, le-ltb n (clusters s) (rw (o .is-clusters) at h))
 
     pub repair-short : (a : ℕ) → n < g .clusters → Done (repairPlan s n) a s (NotDone 15) s
-    unfolding repairPlan judged
+    unfolding repairPlan judged clearing
     repair-short a h = rw (o .accepted, lt-ltb n (clusters s) (rw (o .is-clusters) at h)) (refusal 15 a s _ refl)
 
-    pub repair-room : (a : ℕ) (v : Verdict) (r : Outcome) (t : List ℕ) → g .clusters ≤ n → v ≡ verdict s → Done (verdictPlan s v) a s r t → Done (repairPlan s n) a s r t
+    pub repair-room : (a : ℕ) (v : Verdict) (r : Outcome) (t : List ℕ) → g .clusters ≤ n → v ≡ verdict s → Done (clearing s (verdictPlan s v)) a s r t → Done (repairPlan s n) a s r t
     unfolding repairPlan judged
     repair-room a v r t h e d = rw (o .accepted, le-ltb n (clusters s) (rw (o .is-clusters) at h), ← e) d
 
@@ -65,7 +65,7 @@ module _ (g : Geometry) (s : List ℕ) (o : Opened g s) where
   -- ---- a write: the range lies inside the disk and one guest cluster
   module _ (x : ℕ) (d : List ℕ) (a : ℕ) where
     out : (outside s x (length d) || ltb (clusterSize s - x % clusterSize s) (length d)) ≡ true → Done (writePlan s x d) a s (NotDone 11) s
-    unfolding writePlan judged
+    unfolding writePlan judged clearing
     out e = rw (o .accepted, e) (refusal 11 a s _ refl)
 
     pub write-offset : g .size < x → Done (writePlan s x d) a s (NotDone 11) s
@@ -89,18 +89,18 @@ module _ (g : Geometry) (s : List ℕ) (o : Opened g s) where
         within = le-ltb (clusterSize s - x % clusterSize s) (length d) (rw (o .is-cluster) at w)
 
         pub write-none : (r : Outcome) → length d ≡ 0 → r ≡ ended 0 a → Done (writePlan s x d) a s r s
-        unfolding writePlan judged
+        unfolding writePlan judged clearing
         write-none r z e = rw (o .accepted, in-disk, within, eq-eqb (length d) 0 z) (nothing a s r e)
 
         pub write-some : (y q : ℕ) (v : Way) (r : Outcome) (t : List ℕ) → (length d ≡ 0 → ⊥) → y ≡ x / 2 ^ g .bits → q ≡ x % 2 ^ g .bits → v ≡ way s y
-            → Done (writeWay s v y q d) a s r t → Done (writePlan s x d) a s r t
+            → Done (clearing s (writeWay s v y q d)) a s r t → Done (writePlan s x d) a s r t
         unfolding writePlan judged
         write-some y q v r t n e f k h = rw (o .accepted, in-disk, within, ne-eqb (length d) 0 n, ← o .is-cluster, ← e, ← f, ← k) h
 
   -- ---- a discard: the guest cluster starts inside the disk
   module _ (guest a : ℕ) where
     pub discard-past : ceilDiv (g .size) (2 ^ g .bits) ≤ guest → Done (discardPlan s guest) a s (NotDone 11) s
-    unfolding discardPlan judged
+    unfolding discardPlan judged clearing
     discard-past h = rw (o .accepted, le-leb (diskSize s) (guest * clusterSize s) past) (refusal 11 a s _ refl)
       where
         past : diskSize s ≤ guest * clusterSize s
@@ -114,6 +114,6 @@ module _ (g : Geometry) (s : List ℕ) (o : Opened g s) where
         let m = mul-le-mul-right (2 ^ g .bits) h in
         rw (← o .is-cluster, ← o .is-size) (omega (arith, m, div-add-mod' (g .size + (2 ^ g .bits - 1)) (2 ^ g .bits), pow-pos (g .bits)))
 
-    pub discard-some : (v : Way) (r : Outcome) (t : List ℕ) → guest < ceilDiv (g .size) (2 ^ g .bits) → v ≡ way s guest → Done (discardWay s v) a s r t → Done (discardPlan s guest) a s r t
+    pub discard-some : (v : Way) (r : Outcome) (t : List ℕ) → guest < ceilDiv (g .size) (2 ^ g .bits) → v ≡ way s guest → Done (clearing s (discardWay s v)) a s r t → Done (discardPlan s guest) a s r t
     unfolding discardPlan judged
     discard-some v r t h k d = rw (o .accepted, lt-leb (diskSize s) (guest * clusterSize s) (inside h), ← k) d

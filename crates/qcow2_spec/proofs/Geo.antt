@@ -14,7 +14,7 @@ use Rattle.choice.specs.Pick.{ceilDiv}
 use Rattle.endian.specs.Big.{be32}
 use Rattle.qcow2_spec.specs.Header.{version, clusterSize, clusters, diskSize, l1Size, l1At, tableAt, tableClusters, perBlock, blocks, perTable}
 use Rattle.qcow2_spec.specs.Entries.{place, goodPlace, goodL1, goodL2, compressed, zeroMark, newEntry}
-use Rattle.qcow2_spec.proofs.Facts.{Facts, placed, good-place1, good-place2, up-le, le-up, cover-law, power, c-pos, c-8, c-2, n-whole, n-pos, h-pos, e-pos}
+use Rattle.qcow2_spec.proofs.Facts.{Facts, placed, good-place1, good-place2, up-le, le-up, cover-law, power, c-pos, c-8, c-2, n-whole, n-pos, h-pos, e-pos, c-big}
 
 abbrev pub geo : List ℕ → Geo
 geo s =
@@ -30,6 +30,8 @@ geo s =
       rtc = tableAt s / clusterSize s;
       rtn = tableClusters s;
       size = diskSize s;
+      idle = 80;
+      busy = 96;
     }
 
 abbrev pub codecOf : (version C n : ℕ) → Codec
@@ -169,6 +171,7 @@ module _ (s : List ℕ) (f : Facts s) where
         l1in = l1-inside _ _ _ _ (c-pos s f) (f .l1-whole) (omega (arith, n-whole s f, f .l1-in));
         npos = n-pos s f;
         reach = f .reach;
+        idle-in = omega (arith, c-big s f);
       }
     where
       l1fit : l1Size s ≤ ceilDiv (8 * l1Size s) (clusterSize s) * perTable s

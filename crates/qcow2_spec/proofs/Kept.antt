@@ -1,8 +1,9 @@
--- The tables as the machinery reads them, and that an image whose header and refcount table are kept is judged as before. Assumes nothing.
+-- The tables as the machinery reads them, and that an image whose refcount table and header are kept, bytes 80 to 95 aside, is judged as before. Assumes nothing.
 use Prim.Native.Nat.{ℕ, _+_, _-_, _*_, _/_, _%_, _^_, _≤_, _<_}
 use native.Mathlib.Nat.{div-add-mod', zero-mul, zero-add}
 use native.Mathlib.Omega.{arith}
 use mathlib.Core.Path.{_≡_, sym, ap, ap₂, _∙_}
+use mathlib.Core.Logic.{_⊎_, inl, inr}
 use mathlib.Core.List.{List}
 use lib.ListN.{length, getD, drop}
 use Rattle.clusters.proofs.Cell.{mem}
@@ -16,6 +17,14 @@ use Rattle.qcow2_spec.specs.Counts.{countAt, countOf}
 use Rattle.qcow2_spec.proofs.Numbers.{mem8, mem2, place-of, entries-cong}
 use Rattle.qcow2_spec.proofs.Facts.{Facts, in-block, c-8, c-big, n-whole, block-named}
 use Rattle.qcow2_spec.proofs.Geo.{geo, code}
+
+-- w bytes of the header from x on, apart from those that nothing reads
+abbrev Field : (x w : ℕ) → Type 0
+Field x w = (x + w ≤ 80) ⊎ ((96 ≤ x) × (x + w ≤ 512))
+
+half : (v x w : ℕ) → Field x (v + w) → Field x v × Field (x + v) w
+half v x w (inl h) = (inl (omega arith), inl (omega arith))
+half v x w (inr h) = (inr (h .0, omega arith), inr (omega arith, omega arith))
 
 module _ (s : List ℕ) (f : Facts s) where
   module _ (t : List ℕ) where
@@ -59,51 +68,59 @@ module _ (s : List ℕ) (f : Facts s) where
     pub same-length : length t ≡ length s
     same-length = k .len ∙ n-whole s f
 
-    same-byte : (x : ℕ) → x < 512 → getD t x 0 ≡ getD s x 0
-    same-byte x l = at t x ∙ k .head x (omega (arith, c-big s f)) ∙ sym (at s x)
+    same-byte : (x : ℕ) → Field x 1 → getD t x 0 ≡ getD s x 0
+    same-byte x l = at t x ∙ k .head x (field-in x l) (field-busy x l) ∙ sym (at s x)
       where
         at : (u : List ℕ) (x : ℕ) → getD u x 0 ≡ mem (clusterSize s) u 0 x
         at u x = ap (λ (y : ℕ). getD u y 0) (sym (ap (λ (y : ℕ). y + x) (zero-mul (clusterSize s)) ∙ zero-add x))
 
-    same16 : (x : ℕ) → x + 2 ≤ 512 → be16 t x ≡ be16 s x
+        field-in : (x : ℕ) → Field x 1 → x < clusterSize s
+        field-in x (inl h) = omega (arith, c-big s f)
+        field-in x (inr h) = omega (arith, c-big s f)
+
+        field-busy : (x : ℕ) → Field x 1 → (x < 80) ⊎ (96 ≤ x)
+        field-busy x (inl h) = inl (omega arith)
+        field-busy x (inr h) = inr (h .0)
+
+    same16 : (x : ℕ) → Field x 2 → be16 t x ≡ be16 s x
     unfolding be16
-    same16 x l = ap₂ (λ (a b : ℕ). a * 256 + b) (same-byte x (omega arith)) (same-byte (x + 1) (omega arith))
+    same16 x l = ap₂ (λ (a b : ℕ). a * 256 + b) (same-byte x (half 1 x 1 l .0)) (same-byte (x + 1) (half 1 x 1 l .1))
 
-    same32 : (x : ℕ) → x + 4 ≤ 512 → be32 t x ≡ be32 s x
+    same32 : (x : ℕ) → Field x 4 → be32 t x ≡ be32 s x
     unfolding be32
-    same32 x l = ap₂ (λ (a b : ℕ). a * 65536 + b) (same16 x (omega arith)) (same16 (x + 2) (omega arith))
+    same32 x l = ap₂ (λ (a b : ℕ). a * 65536 + b) (same16 x (half 2 x 2 l .0)) (same16 (x + 2) (half 2 x 2 l .1))
 
-    same64 : (x : ℕ) → x + 8 ≤ 512 → be64 t x ≡ be64 s x
+    same64 : (x : ℕ) → Field x 8 → be64 t x ≡ be64 s x
     unfolding be64
-    same64 x l = ap₂ (λ (a b : ℕ). a * 4294967296 + b) (same32 x (omega arith)) (same32 (x + 4) (omega arith))
+    same64 x l = ap₂ (λ (a b : ℕ). a * 4294967296 + b) (same32 x (half 4 x 4 l .0)) (same32 (x + 4) (half 4 x 4 l .1))
 
     pub same-version : version t ≡ version s
     unfolding version
-    same-version = same32 4 (omega arith)
+    same-version = same32 4 (inl (omega arith))
 
     pub same-size : clusterSize t ≡ clusterSize s
     unfolding clusterSize
-    same-size = ap (λ (x : ℕ). 2 ^ x) (same32 20 (omega arith))
+    same-size = ap (λ (x : ℕ). 2 ^ x) (same32 20 (inl (omega arith)))
 
     same-l1At : l1At t ≡ l1At s
     unfolding l1At
-    same-l1At = same64 40 (omega arith)
+    same-l1At = same64 40 (inl (omega arith))
 
     same-l1Size : l1Size t ≡ l1Size s
     unfolding l1Size
-    same-l1Size = same32 36 (omega arith)
+    same-l1Size = same32 36 (inl (omega arith))
 
     same-tableAt : tableAt t ≡ tableAt s
     unfolding tableAt
-    same-tableAt = same64 48 (omega arith)
+    same-tableAt = same64 48 (inl (omega arith))
 
     same-tableClusters : tableClusters t ≡ tableClusters s
     unfolding tableClusters
-    same-tableClusters = same32 56 (omega arith)
+    same-tableClusters = same32 56 (inl (omega arith))
 
     pub same-disk : diskSize t ≡ diskSize s
     unfolding diskSize
-    same-disk = same64 24 (omega arith)
+    same-disk = same64 24 (inl (omega arith))
 
     same-perTable : perTable t ≡ perTable s
     unfolding perTable
@@ -145,14 +162,14 @@ module _ (s : List ℕ) (f : Facts s) where
           same-perTable,
           same-blocks,
           same-table,
-          same32 0 (omega arith),
-          same32 20 (omega arith),
-          same64 8 (omega arith),
-          same32 32 (omega arith),
-          same32 60 (omega arith),
-          same32 96 (omega arith),
-          same32 100 (omega arith),
-          same64 72 (omega arith),
+          same32 0 (inl (omega arith)),
+          same32 20 (inl (omega arith)),
+          same64 8 (inl (omega arith)),
+          same32 32 (inl (omega arith)),
+          same32 60 (inl (omega arith)),
+          same32 96 (inr (omega arith, omega arith)),
+          same32 100 (inr (omega arith, omega arith)),
+          same64 72 (inl (omega arith)),
         )
 
     pub same-code : code t ≡ code s

@@ -1,50 +1,55 @@
 -- Every call's list of units, cut anywhere, keeps the image sound or leaking and feeds the plain disk as the rules say. Assumes nothing.
 use Prim.Native.Nat.{ℕ, zero, suc, _+_, _-_, _*_, _/_, _%_, _≤_, _<_}
-use native.Mathlib.Nat.{suc-ne-zero, add-zero, div-lt-iff-lt-mul, mod-lt, div-add-mod', mul-le-mul-right, lt-of-mul-lt-mul-right}
+use native.Mathlib.Nat.{le-refl, zero-mul, zero-add, suc-ne-zero, add-zero, div-lt-iff-lt-mul, mod-lt, div-add-mod', mul-le-mul-right, lt-of-mul-lt-mul-right}
 use native.Mathlib.Decide.{ℕ-discrete, decLe, decLt}
 use native.Mathlib.Omega.{arith}
 use mathlib.Core.Path.{_≡_, refl, sym, ap, _∙_, subst}
 use mathlib.Core.Logic.{_⊎_, inl, inr, _≢_}
 use mathlib.Core.Bool.{Bool, true, false, _&&_, _||_}
-use mathlib.Core.List.{List, [], append-assoc}
+use mathlib.Core.List.{List, [], _∷_, _++_, append-assoc}
 use lib.Dec.{leb, ltb, eqb}
 use lib.ListN.{length, getD, take, length-take}
-use lib.Seq.{getD-take}
+use lib.Seq.{getD-take, take-all, sets}
 use borrow.Author.Tests.{ltb-true, ltb-false, leb-true, leb-false, eqb-true, eqb-false, le-leb, lt-ltb}
-use Rattle.clusters.proofs.Cell.{mem}
-use Rattle.clusters.proofs.Meta.{cnt, l2, tab, dat, refsOf, Sound, dat-none}
-use Rattle.clusters.proofs.Step.{gread, gread-none, split-index, dat-in}
+use Rattle.clusters.proofs.Cell.{mem, small-enc}
+use Rattle.clusters.proofs.Meta.{cnt, l2, tab, dat, refsOf, Sound, dat-none, keep-refs}
+use Rattle.clusters.proofs.Step.{gread, gread-none, split-index, dat-in, free-not-0, Quiet}
 use Rattle.clusters.proofs.Run.{Store, Run, apply, fill}
 use Rattle.clusters.proofs.Call.{Ok, Same as SameReads, Zeroed, MidZ, EndZ, discard-run, unmark-run, countStore}
 use Rattle.clusters.proofs.Write.{Wrote, MidW, EndW, MidP, place-run, marked-run, alloc-run, table-run}
 use Rattle.clusters.proofs.Repair.{MidR, Repaired, repair-run}
+use Rattle.clusters.proofs.Idle.{idle-store}
 use Rattle.choice.specs.Pick.{if_then_else_, first}
-use Rattle.qcow2_spec.specs.Header.{clusterSize, clusters, diskSize, l1Size, perTable, judge}
+use Rattle.endian.specs.Big.{bytes64}
+use Rattle.endian.proofs.Laws.{length-bytes64}
+use Rattle.qcow2_spec.specs.Header.{autoclearAt, autoclear, clusterSize, clusters, diskSize, l1Size, perTable, judge}
 use Rattle.qcow2_spec.specs.Entries.{place, zeroMark}
 use Rattle.qcow2_spec.specs.Counts.{countOf, freeAt, freeFrom}
 use Rattle.qcow2_spec.specs.declared.Way.{Way}
 use Rattle.qcow2_spec.specs.declared.Way.the-variants.{Bad as bad, NoTable as noTable, Slot as slot}
 use Rattle.qcow2_spec.specs.Guest.{way, outside}
 use Rattle.units.specs.Plan.{Plan, refused, units}
-use Rattle.units.specs.Units.{UnitStore, apply as applyU, applyAll, fill as fillU, cluster}
+use Rattle.units.specs.Units.{UnitStore, entry, apply as applyU, applyAll, fill as fillU, cluster}
 use Rattle.qcow2_spec.specs.Entries.{newEntry}
 use Rattle.qcow2_spec.specs.Counts.{setCount}
-use Rattle.qcow2_spec.specs.Store.{judged, allot, writeNew, writeTable, writeSlot, writeWay, writePlan, discardSlot, discardWay, discardPlan}
+use Rattle.qcow2_spec.specs.Store.{clearUnits, clearing, judged, allot, writeNew, writeTable, writeSlot, writeWay, writePlan, discardSlot, discardWay, discardPlan}
 use Rattle.qcow2_spec.specs.References.{figuresOf}
 use Rattle.qcow2_spec.specs.Check.{verdict, repairUnits, verdictPlan, repairPlan}
-use Rattle.units.specs.declared.Outcome.the-variants.{Stopped}
+use Rattle.units.specs.declared.Outcome.{Outcome}
+use Rattle.units.specs.declared.Outcome.the-variants.{Finished, Stopped, Refused}
 use Rattle.qcow2_spec.specs.declared.Verdict.{Verdict}
-use Rattle.qcow2_spec.specs.declared.Verdict.the-variants.{Sound as IsSound, Leaks, BadL1, BadL2, Shared, Short, Refused}
+use Rattle.qcow2_spec.specs.declared.Verdict.the-variants.{Sound as IsSound, Leaks, BadL1, BadL2, Shared, Short, Refused as NotChecked}
 use Rattle.units.specs.Plan.{storesCount}
 use Rattle.qcow2_spec.specs.Disk.{Request, write, discard, repair, planOf, finished, Same, Mixed, Fed}
 use Rattle.qcow2_spec.specs.Series.{Bytes, BytesOf}
 use Rattle.choice.proofs.Tests.{if-yes, if-no, if-elim, and-true, or-false, two-ways}
-use Rattle.qcow2_spec.proofs.Facts.{Facts, c-pos}
+use Rattle.qcow2_spec.proofs.Facts.{Facts, c-pos, c-big}
+use Rattle.qcow2_spec.proofs.Numbers.{enc8}
 use Rattle.qcow2_spec.proofs.Geo.{geo, code, geo-ok}
 use Rattle.qcow2_spec.proofs.Kept.{cnt-own}
 use Rattle.qcow2_spec.proofs.Verdicts.{refs-own, sound-exact}
 use Rattle.qcow2_spec.proofs.Ways.{rd, Slot, WayIs, way-is, dat-own, dat-place, dat-zero, dat-some-own, in-l1, inside}
-use Rattle.qcow2_spec.proofs.Units.{Like, none, also, like-append, like-run, like-fill, fill-quiet, cluster-around, count-like, entry-like, link-like, repair-like}
+use Rattle.qcow2_spec.proofs.Units.{Like, none, also, like-append, like-run, like-aside, like-fill, fill-quiet, cluster-around, count-aside, link-aside, entry-aside, count-like, entry-like, link-like, repair-like}
 
 -- ---- the disk after a write
 module _ (C x : ℕ) (d : List ℕ) (disk : ℕ → ℕ) (y : ℕ) where
@@ -60,6 +65,10 @@ module _ (C x : ℕ) (d : List ℕ) (disk : ℕ → ℕ) (y : ℕ) where
           → (if leb x y && ltb y (x + length d) then getD d (y - x) 0 else disk y) ≡ disk y
       go (inl e) = let p = and-true (leb x y) _ e in absurd (n (leb-true x y (p .0), ltb-true y (x + length d) (p .1)))
       go (inr e) = if-no (leb x y && ltb y (x + length d)) _ _ e
+
+-- the unit that clears the autoclear field
+abbrev clear : UnitStore
+clear = entry autoclearAt 0
 
 zero-place : (e : ℕ) → e ≡ 0 → place e ≡ 0
 unfolding place
@@ -79,6 +88,20 @@ strong true size old new now h u = h
 strong false size old new now (inl h) u = λ x l. inl (h x l)
 strong false size old new now (inr h) u = λ x l. inr (h x l)
 
+-- the plain disk may be read off by either side
+module _ (size : ℕ) (old old′ new new′ now now′ : ℕ → ℕ) (ho : Same size old old′) (hn : Same size new new′) (hw : Same size now now′) where
+  pub fed-same : (o : Outcome) (b : Bool) → Fed o b size old new now → Fed o b size old′ new′ now′
+  unfolding Fed Same Mixed
+  fed-same (Refused n) b h = λ y l. sym (hw y l) ∙ h y l ∙ ho y l
+  fed-same (Finished u) b h = λ y l. sym (hw y l) ∙ h y l ∙ hn y l
+  fed-same (Stopped u) true (inl h) = inl (λ y l. sym (hw y l) ∙ h y l ∙ ho y l)
+  fed-same (Stopped u) true (inr h) = inr (λ y l. sym (hw y l) ∙ h y l ∙ hn y l)
+  fed-same (Stopped u) false h = λ y l. go y l (h y l)
+    where
+      go : (y : ℕ) → y < size → (now y ≡ old y) ⊎ (now y ≡ new y) → (now′ y ≡ old′ y) ⊎ (now′ y ≡ new′ y)
+      go y l (inl e) = inl (sym (hw y l) ∙ e ∙ ho y l)
+      go y l (inr e) = inr (sym (hw y l) ∙ e ∙ hn y l)
+
 module _ (s : List ℕ) (f : Facts s) where
   abbrev m : ℕ → ℕ → ℕ
   m = mem (clusterSize s) s
@@ -96,9 +119,9 @@ module _ (s : List ℕ) (f : Facts s) where
   ep = geo-ok s f .epos
 
   -- ---- what the machinery says of the reads, for the plain disk
-  same-rd : (t : List ℕ) → SameReads (geo s) (code s) s t → Same (diskSize s) (seen t) (seen s)
+  same-rd : (r t : List ℕ) → SameReads (geo s) (code s) r t → Same (diskSize s) (seen t) (seen r)
   unfolding SameReads Same
-  same-rd t h y l = h (y / clusterSize s / perTable s) (y / clusterSize s % perTable s) (y % clusterSize s) (in-l1 s f y l) (mod-lt (y / clusterSize s) ep) (mod-lt y cp)
+  same-rd r t h y l = h (y / clusterSize s / perTable s) (y / clusterSize s % perTable s) (y % clusterSize s) (in-l1 s f y l) (mod-lt (y / clusterSize s) ep) (mod-lt y cp)
 
   zeroed-rd : (t : List ℕ) (c : ℕ) → Zeroed (geo s) (code s) (c / perTable s) (c % perTable s) s t → Same (diskSize s) (seen t) (finished (clusterSize s) (discard c) (seen s))
   unfolding Same finished
@@ -187,17 +210,75 @@ module _ (s : List ℕ) (f : Facts s) where
   abbrev pub End : Request → List ℕ → Type 0
   End r t = Kept t × (Same (diskSize s) (seen t) (finished (clusterSize s) r (seen s)) × Exact r t)
 
+  -- the autoclear field may as well be cleared before the units of a list as after them
+  abbrev Aside : List UnitStore → Type 0
+  Aside us = (a : ℕ) (t : List ℕ) → applyAll (take a us) (applyU clear t) ≡ applyU clear (applyAll (take a us) t)
+
   unfoldable pub Fine : Request → Plan → Type 0
   Fine r (refused n) = Unit {0}
-  Fine r (units us) = ((a : ℕ) → Mid r (storesCount us) (applyAll (take a us) s)) × End r (applyAll us s)
+  Fine r (units us) = ((a : ℕ) → Mid r (storesCount us) (applyAll (take a us) s)) × End r (applyAll us s) × Aside us
+
+  like-clear : {us : List UnitStore} {vs : List Store} → Like (clusterSize s) us vs → Aside us
+  unfolding applyU
+  like-clear lk = like-aside lk autoclearAt (bytes64 0) (omega (arith, length-bytes64 0, c-big s f))
+
+  -- ---- clearing it changes neither what the tables say nor what the guest reads
+  module _ (t : List ℕ) (k : Kept t) where
+    cleared : Kept (applyU clear t) × Quiet (geo s) (code s) (mem (clusterSize s) t) (mem (clusterSize s) (applyU clear t))
+    unfolding applyU
+    cleared =
+        subst (λ (at : ℕ). Kept (sets t at (bytes64 0)) × Quiet (geo s) (code s) (mem (clusterSize s) t) (mem (clusterSize s) (sets t at (bytes64 0))))
+        (ap (λ (y : ℕ). y + autoclearAt) (zero-mul (clusterSize s)) ∙ zero-add autoclearAt)
+        (idle-store (geo s) (code s) (geo-ok s f) m t k autoclearAt (bytes64 0) (omega arith) (omega (arith, length-bytes64 0)) (subst Bytes (enc8 0) (small-enc 8 0)))
+
+    cleared-seen : Same (diskSize s) (seen (applyU clear t)) (seen t)
+    unfolding SameReads
+    cleared-seen = same-rd t (applyU clear t) (cleared .1 .reads)
+
+    mid-cleared : (r : Request) (b : Bool) → Mid r b t → Mid r b (applyU clear t)
+    unfolding Same
+    mid-cleared r b h = (cleared .0, λ u. fed-same (diskSize s) _ _ _ _ _ _ (λ y l. refl) (λ y l. refl) (λ y l. sym (cleared-seen y l)) (Stopped u) b (h .1 u))
+
+    exact-cleared : (r : Request) → Exact r t → Exact r (applyU clear t)
+    unfolding Exact
+    exact-cleared (write x d) h = tt
+    exact-cleared (discard c) h = tt
+    exact-cleared (repair n) h = λ c l. cleared .1 .cnts c l ∙ h c l ∙ sym (keep-refs (geo s) (code s) (geo-ok s f) (mem (clusterSize s) t) (mem (clusterSize s) (applyU clear t)) (cleared .1 .keep) c)
+
+    end-cleared : (r : Request) → End r t → End r (applyU clear t)
+    unfolding Same
+    end-cleared r h = (cleared .0, ((λ y l. cleared-seen y l ∙ h .1 .0 y l), exact-cleared r (h .1 .1)))
 
   module _ (k : Kept s) where
+    -- a list that is fine is so after the clearing unit
+    fine-first : (r : Request) (us : List UnitStore) → Fine r (units us) → Fine r (units (clear ∷ us))
+    unfolding Fine storesCount applyAll Same
+    fine-first r us h = (cut, subst (End r) (sym whole) (end-cleared _ (h .1 .0) r (h .1)), aside)
+      where
+        cut : (a : ℕ) → Mid r (storesCount us) (applyAll (take a (clear ∷ us)) s)
+        cut zero = (k, strong (storesCount us) (diskSize s) (seen s) (finished (clusterSize s) r (seen s)) (seen s) (inl (λ y l. refl)))
+        cut (suc a) = subst (Mid r (storesCount us)) (sym (h .2 a s)) (mid-cleared _ (h .0 a .0) r (storesCount us) (h .0 a))
+
+        whole : applyAll us (applyU clear s) ≡ applyU clear (applyAll us s)
+        whole = let e : take (length us) us ≡ us = take-all (length us) us (le-refl (length us)) in rw e at (h .2 (length us) s)
+
+        aside : Aside (clear ∷ us)
+        aside zero t = refl
+        aside (suc a) t = h .2 a (applyU clear t)
+
+    fine-clearing : (r : Request) (p : Plan) → Fine r p → Fine r (clearing s p)
+    unfolding clearing clearUnits
+    fine-clearing r (refused n) h = h
+    fine-clearing r (units []) h = h
+    fine-clearing r (units (u ∷ us)) h =
+        if-elim (λ (ls : List UnitStore). Fine r (units (ls ++ u ∷ us))) (eqb (autoclear s) 0) _ _ (λ e. h) (λ e. fine-first r (u ∷ us) h)
+
     snd : Sound (geo s) (code s) m
     snd = k .sound
 
     fine-none : (r : Request) → Same (diskSize s) (seen s) (finished (clusterSize s) r (seen s)) → Exact r s → Fine r (units [])
     unfolding Fine applyAll Same
-    fine-none r h e = ((λ a. cut a), (k, (h, e)))
+    fine-none r h e = ((λ a. cut a), (k, (h, e)), like-clear none)
       where
         cut : (a : ℕ) → Mid r (storesCount []) (applyAll (take a []) s)
         cut zero = (k, strong (storesCount []) (diskSize s) (seen s) (finished (clusterSize s) r (seen s)) (seen s) (inl (λ y l. refl)))
@@ -206,6 +287,10 @@ module _ (s : List ℕ) (f : Facts s) where
     fine-refused : (r : Request) (n : ℕ) → Fine r (refused n)
     unfolding Fine
     fine-refused r n = tt
+
+    -- a cluster with count 0 is not the header's
+    empty : (c : ℕ) → c < clusters s → cnt (geo s) m c ≡ 0 → c ≢ 0
+    empty c l z = free-not-0 (geo s) (code s) (geo-ok s f) m snd c (omega (arith, snd .inv .covered c l))
 
     -- the lowest free cluster
     first-is : (p : ℕ → Bool) (i n : ℕ) → first p i n < i + n → (i ≤ first p i n) × (p (first p i n) ≡ true)
@@ -259,11 +344,12 @@ module _ (s : List ℕ) (f : Facts s) where
           let r = like-run (MidW (geo s) (code s) (geo-ok s f) m i j o d s) (EndW (geo s) (code s) (geo-ok s f) m i j o d s) s lk q in (
             (λ a. (r .0 a .0, strong (storesCount us) (diskSize s) (seen s) (finished (clusterSize s) (write x d) (seen s)) (seen (applyAll (take a us) s)) (choose _ (r .0 a .1)))),
             (r .1 .0, (wrote-rd _ x d inC (r .1 .1), tt)),
+            like-clear lk,
           )
         where
           choose : (t : List ℕ) → SameReads (geo s) (code s) s t ⊎ Wrote (geo s) (code s) i j o d s t
               → Same (diskSize s) (seen t) (seen s) ⊎ Same (diskSize s) (seen t) (finished (clusterSize s) (write x d) (seen s))
-          choose t (inl h) = inl (same-rd t h)
+          choose t (inl h) = inl (same-rd s t h)
           choose t (inr h) = inr (wrote-rd t x d inC h)
 
       fine-place : (us : List UnitStore) → storesCount us ≡ false → Like (clusterSize s) us (fill (dat (geo s) (code s) m i j) o d)
@@ -278,6 +364,7 @@ module _ (s : List ℕ) (f : Facts s) where
                   (part-rd _ x d (r .0 a .1 .0) inC (r .0 a .1 .1)),
             )),
             (r .1 .0, (wrote-rd _ x d inC (r .1 .1), tt)),
+            like-clear lk,
           )
 
       fine-new : (a c : ℕ) → a ≡ tab (geo s) (code s) m i * clusterSize s + 8 * j → tab (geo s) (code s) m i ≢ 0 → dat (geo s) (code s) m i j ≡ 0
@@ -287,9 +374,9 @@ module _ (s : List ℕ) (f : Facts s) where
           if-elim (Fine (write x d)) (leb (clusters s) c) _ _ (λ h. fine-refused (write x d) 14)
           (λ h. let l : c < clusters s = leb-false _ _ h in
           fine-w _ _
-          (also (λ t. count-like s f c 1 l t)
-          (like-append (subst (λ (bs : List ℕ). Like (clusterSize s) (fillU (c * clusterSize s) (cluster (clusterSize s) o d)) (fill c 0 bs)) (cluster-around (clusterSize s) o d) (like-fill (clusterSize s) (c * clusterSize s) c 0 _ (sym (add-zero _))))
-          (also (λ t. entry-like s f a (tab (geo s) (code s) m i) j _ _ at refl t) none)))
+          (also (λ t. count-like s f c 1 l t) (count-aside s f snd c 1 l)
+          (like-append (subst (λ (bs : List ℕ). Like (clusterSize s) (fillU (c * clusterSize s) (cluster (clusterSize s) o d)) (fill c 0 bs)) (cluster-around (clusterSize s) o d) (like-fill (clusterSize s) (c * clusterSize s) c 0 _ (sym (add-zero _)) (empty c l (z l))))
+          (also (λ t. entry-like s f a (tab (geo s) (code s) m i) j _ _ at refl t) (entry-aside s f _ j _ tn) none)))
           (alloc-run (geo s) (code s) (geo-ok s f) m s k i j o d li lj inC sm c l (z l) tn dz))
 
       fine-table : (t c : ℕ) → tab (geo s) (code s) m i ≡ 0 → (c < clusters s → t < c) → (t < clusters s → cnt (geo s) m t ≡ 0) → (c < clusters s → cnt (geo s) m c ≡ 0)
@@ -301,11 +388,11 @@ module _ (s : List ℕ) (f : Facts s) where
           let b : t < c = tc l in
           rw append-assoc
           (fine-w _ _
-          (like-append (also (λ r. count-like s f t 1 (omega arith) r) (like-fill (clusterSize s) (t * clusterSize s) t 0 _ (sym (add-zero _))))
+          (like-append (also (λ r. count-like s f t 1 (omega arith) r) (count-aside s f snd t 1 (omega arith)) (like-fill (clusterSize s) (t * clusterSize s) t 0 _ (sym (add-zero _)) (empty t (omega arith) (zt (omega arith)))))
           (like-append
-          (also (λ r. count-like s f c 1 l r)
-          (subst (λ (bs : List ℕ). Like (clusterSize s) (fillU (c * clusterSize s) (cluster (clusterSize s) o d)) (fill c 0 bs)) (cluster-around (clusterSize s) o d) (like-fill (clusterSize s) (c * clusterSize s) c 0 _ (sym (add-zero _)))))
-          (also (λ r. entry-like s f _ t j _ _ refl refl r) (also (λ r. link-like s f (x / clusterSize s) _ r) none))))
+          (also (λ r. count-like s f c 1 l r) (count-aside s f snd c 1 l)
+          (subst (λ (bs : List ℕ). Like (clusterSize s) (fillU (c * clusterSize s) (cluster (clusterSize s) o d)) (fill c 0 bs)) (cluster-around (clusterSize s) o d) (like-fill (clusterSize s) (c * clusterSize s) c 0 _ (sym (add-zero _)) (empty c l (zc l)))))
+          (also (λ r. entry-like s f _ t j _ _ refl refl r) (entry-aside s f t j _ (empty t (omega arith) (zt (omega arith)))) (also (λ r. link-like s f (x / clusterSize s) _ r) (link-aside s f snd i _ li) none))))
           (table-run (geo s) (code s) (geo-ok s f) m s k i j o d li lj inC sm t c (omega arith) l (omega arith) (zt (omega arith)) (zc l) tz)))
 
       fine-slot : (a e : ℕ) → Slot s f (x / clusterSize s) a e → Fine (write x d) (writeSlot s a e o d)
@@ -317,10 +404,10 @@ module _ (s : List ℕ) (f : Facts s) where
           if-elim (Fine (write x d)) (eqb (e % 2) 1) _ _
           (λ b. fine-w _ _
           (like-append (subst (λ (bs : List ℕ). Like (clusterSize s) (fillU (place e) (cluster (clusterSize s) o d)) (fill (dat (geo s) (code s) m i j) 0 bs)) (cluster-around (clusterSize s) o d)
-          (like-fill (clusterSize s) (place e) (dat (geo s) (code s) m i j) 0 _ (sym (dat-place s f _ a e h) ∙ sym (add-zero _))))
-          (also (λ t. entry-like s f a (tab (geo s) (code s) m i) j _ _ (h .place-is) (ap newEntry (sym (dat-place s f _ a e h))) t) none))
+          (like-fill (clusterSize s) (place e) (dat (geo s) (code s) m i j) 0 _ (sym (dat-place s f _ a e h) ∙ sym (add-zero _)) dn))
+          (also (λ t. entry-like s f a (tab (geo s) (code s) m i) j _ _ (h .place-is) (ap newEntry (sym (dat-place s f _ a e h))) t) (entry-aside s f _ j _ (h .table)) none))
           (marked-run (geo s) (code s) (geo-ok s f) m s k i j o d li lj inC sm dn (λ y. omega (arith, eqb-true (e % 2) 1 b, flag, y))))
-          (λ b. fine-place _ (fill-quiet (place e + o) d) (like-fill (clusterSize s) (place e + o) (dat (geo s) (code s) m i j) o d (ap (λ (y : ℕ). y + o) (sym (dat-place s f _ a e h)))) dn
+          (λ b. fine-place _ (fill-quiet (place e + o) d) (like-fill (clusterSize s) (place e + o) (dat (geo s) (code s) m i j) o d (ap (λ (y : ℕ). y + o) (sym (dat-place s f _ a e h))) dn) dn
           (sym flag ∙ even (eqb-false _ _ b))))
         where
           flag : e % 2 ≡ l2 (geo s) m (tab (geo s) (code s) m i) j % 2
@@ -347,12 +434,13 @@ module _ (s : List ℕ) (f : Facts s) where
     unfolding writePlan judged
     fine-write e x d sm =
         rw e
+        (fine-clearing (write x d) _
         (if-elim (Fine (write x d)) (outside s x (length d) || ltb (clusterSize s - x % clusterSize s) (length d)) _ _ (λ b. fine-refused (write x d) 11)
         (λ b. let p = or-false (outside s x (length d)) _ b in
         let fits : x % clusterSize s + length d ≤ clusterSize s = omega (arith, ltb-false (clusterSize s - x % clusterSize s) (length d) (p .1), mod-lt x cp) in
         if-elim (Fine (write x d)) (eqb (length d) 0) _ _
         (λ z. fine-none (write x d) (no-bytes x d (eqb-true _ _ z)) (exact-write x d))
-        (λ z. fine-way x d sm (inside s f x (length d) (p .0)) (eqb-false _ _ z) fits (way s (x / clusterSize s)) (way-is s f (x / clusterSize s)))))
+        (λ z. fine-way x d sm (inside s f x (length d) (p .0)) (eqb-false _ _ z) fits (way s (x / clusterSize s)) (way-is s f (x / clusterSize s))))))
 
     -- ---- discard
     fine-z : (c : ℕ) (us : List UnitStore) (vs : List Store) → Like (clusterSize s) us vs
@@ -363,11 +451,12 @@ module _ (s : List ℕ) (f : Facts s) where
         let r = like-run (MidZ (geo s) (code s) (geo-ok s f) m (c / perTable s) (c % perTable s) s) (EndZ (geo s) (code s) (geo-ok s f) m (c / perTable s) (c % perTable s) s) s lk q in (
           (λ a. (r .0 a .0, strong (storesCount us) (diskSize s) (seen s) (finished (clusterSize s) (discard c) (seen s)) (seen (applyAll (take a us) s)) (choose _ (r .0 a .1)))),
           (r .1 .0, (zeroed-rd _ c (r .1 .1), tt)),
+          like-clear lk,
         )
       where
         choose : (t : List ℕ) → SameReads (geo s) (code s) s t ⊎ Zeroed (geo s) (code s) (c / perTable s) (c % perTable s) s t
             → Same (diskSize s) (seen t) (seen s) ⊎ Same (diskSize s) (seen t) (finished (clusterSize s) (discard c) (seen s))
-        choose t (inl h) = inl (same-rd t h)
+        choose t (inl h) = inl (same-rd s t h)
         choose t (inr h) = inr (zeroed-rd t c h)
 
     -- nothing there: the guest reads zeros already
@@ -386,11 +475,11 @@ module _ (s : List ℕ) (f : Facts s) where
     fine-drop c lc a e h =
         if-elim (Fine (discard c)) (eqb e 0) _ _ (λ z. fine-absent c (dat-zero s f c a e h (zero-place e (eqb-true _ _ z))))
         (λ z. if-elim (Fine (discard c)) (eqb (place e) 0) _ _
-        (λ p. fine-z c _ _ (also (λ t. entry-like s f a (tab (geo s) (code s) m (c / perTable s)) (c % perTable s) _ _ (h .place-is) refl t) none)
+        (λ p. fine-z c _ _ (also (λ t. entry-like s f a (tab (geo s) (code s) m (c / perTable s)) (c % perTable s) _ _ (h .place-is) refl t) (entry-aside s f _ (c % perTable s) _ (h .table)) none)
         (unmark-run (geo s) (code s) (geo-ok s f) m s k (c / perTable s) (c % perTable s) lc (mod-lt c ep) (h .table) (dat-zero s f c a e h (eqb-true _ _ p))))
         (λ p. if-elim (Fine (discard c)) (eqb (countOf s (place e / clusterSize s)) 0) _ _ (λ n. fine-refused (discard c) 16)
-        (λ n. fine-z c _ _ (also (λ t. entry-like s f a (tab (geo s) (code s) m (c / perTable s)) (c % perTable s) _ _ (h .place-is) refl t)
-        (also (λ t. freed t) none))
+        (λ n. fine-z c _ _ (also (λ t. entry-like s f a (tab (geo s) (code s) m (c / perTable s)) (c % perTable s) _ _ (h .place-is) refl t) (entry-aside s f _ (c % perTable s) _ (h .table))
+        (also (λ t. freed t) (count-aside s f snd _ _ inN) none))
         (discard-run (geo s) (code s) (geo-ok s f) m s k (c / perTable s) (c % perTable s) lc (mod-lt c ep) (dat-some-own s f c a e h (eqb-false _ _ p))))))
       where
         q : place e / clusterSize s ≡ dat (geo s) (code s) m (c / perTable s) (c % perTable s)
@@ -416,8 +505,9 @@ module _ (s : List ℕ) (f : Facts s) where
     unfolding discardPlan judged
     fine-discard e c =
         rw e
+        (fine-clearing (discard c) _
         (if-elim (Fine (discard c)) (leb (diskSize s) (c * clusterSize s)) _ _ (λ b. fine-refused (discard c) 11)
-        (λ b. fine-discard-way c (inL (leb-false _ _ b)) (way s c) (way-is s f c)))
+        (λ b. fine-discard-way c (inL (leb-false _ _ b)) (way s c) (way-is s f c))))
       where
         inL : c * clusterSize s < diskSize s → c / perTable s < l1Size s
         inL l = div-lt-iff-lt-mul ep .1 (lt-of-mul-lt-mul-right (clusterSize s) (omega (arith, f .reach)))
@@ -427,9 +517,11 @@ module _ (s : List ℕ) (f : Facts s) where
     unfolding Fine Exact finished
     fine-list n =
         let us = repairUnits s (figuresOf s) 0 (clusters s) in
-        let r = like-run (MidR (geo s) (code s) (geo-ok s f) m s k) (Repaired (geo s) (code s) (geo-ok s f) m s k) s (repair-like s f snd (clusters s) 0 (omega arith)) (repair-run (geo s) (code s) (geo-ok s f) m s k) in (
-          (λ a. (r .0 a .0, strong (storesCount us) (diskSize s) (seen s) (finished (clusterSize s) (repair n) (seen s)) (seen (applyAll (take a us) s)) (inl (same-rd _ (r .0 a .1))))),
-          (r .1 .still .fine, (same-rd _ (r .1 .still .reads), r .1 .exact)),
+        let lk = repair-like s f snd (clusters s) 0 (omega arith) in
+        let r = like-run (MidR (geo s) (code s) (geo-ok s f) m s k) (Repaired (geo s) (code s) (geo-ok s f) m s k) s lk (repair-run (geo s) (code s) (geo-ok s f) m s k) in (
+          (λ a. (r .0 a .0, strong (storesCount us) (diskSize s) (seen s) (finished (clusterSize s) (repair n) (seen s)) (seen (applyAll (take a us) s)) (inl (same-rd s _ (r .0 a .1))))),
+          (r .1 .still .fine, (same-rd s _ (r .1 .still .reads), r .1 .exact)),
+          like-clear lk,
         )
 
     fine-verdict : (n : ℕ) (v : Verdict) → verdict s ≡ v → Fine (repair n) (verdictPlan s v)
@@ -441,13 +533,14 @@ module _ (s : List ℕ) (f : Facts s) where
     fine-verdict n (BadL2 i j) q = fine-refused (repair n) 17
     fine-verdict n (Shared c) q = fine-refused (repair n) 17
     fine-verdict n (Short c) q = fine-refused (repair n) 17
-    fine-verdict n (Refused c) q = fine-refused (repair n) c
+    fine-verdict n (NotChecked c) q = fine-refused (repair n) c
 
     fine-repair : judge s ≡ 0 → (n : ℕ) → Fine (repair n) (repairPlan s n)
     unfolding repairPlan judged
     fine-repair e n =
         rw e
-        (if-elim (Fine (repair n)) (ltb n (clusters s)) _ _ (λ b. fine-refused (repair n) 15) (λ b. fine-verdict n (verdict s) refl))
+        (fine-clearing (repair n) _
+        (if-elim (Fine (repair n)) (ltb n (clusters s)) _ _ (λ b. fine-refused (repair n) 15) (λ b. fine-verdict n (verdict s) refl)))
 
     pub plan-fine : judge s ≡ 0 → (r : Request) → BytesOf r → Fine r (planOf s r)
     unfolding BytesOf planOf

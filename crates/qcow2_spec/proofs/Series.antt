@@ -34,7 +34,7 @@ use Rattle.qcow2_spec.proofs.Geo.{geo, code}
 use Rattle.qcow2_spec.proofs.Kept.{cnt-own, same-judge, same-geo, same-code, same-disk, same-size, same-clusters}
 use Rattle.qcow2_spec.proofs.Verdicts.{refs-own, healthy-sound, sound-healthy, exact-sound}
 use Rattle.qcow2_spec.proofs.Ways.{rd, guest-rd, accepted, read-whole}
-use Rattle.qcow2_spec.proofs.Plans.{Exact, Fine, plan-fine}
+use Rattle.qcow2_spec.proofs.Plans.{fed-same, Exact, Fine, plan-fine}
 
 -- an image of the series: accepted, sound or leaking, and of the first image's shape
 record Good (start s : List ℕ) : Type 0 where
@@ -50,7 +50,7 @@ module _ (start s : List ℕ) (k : Good start s) where
   fs = facts s (k .judged)
 
   own : Ok (geo s) (code s) (mem (clusterSize s) s) s
-  own = record { len = sym (n-whole s fs); small = k .bytes; sound = k .sound; head = λ x l. refl; table = λ i l. refl }
+  own = record { len = sym (n-whole s fs); small = k .bytes; sound = k .sound; head = λ x l b. refl; table = λ i l. refl }
 
   checked : (n : ℕ) → clusters start ≤ n → check s n ≡ verdict s
   unfolding check
@@ -115,19 +115,6 @@ unfolding Same finished
 finished-same C size (write x d) a b h y l = ap (λ (v : ℕ). if leb x y && ltb y (x + length d) then getD d (y - x) 0 else v) (h y l)
 finished-same C size (discard g) a b h y l = ap (λ (v : ℕ). if eqb (y / C) g then 0 else v) (h y l)
 finished-same C size (repair n) a b h y l = h y l
-
-module _ (size : ℕ) (old old′ new new′ now now′ : ℕ → ℕ) (ho : Same size old old′) (hn : Same size new new′) (hw : Same size now now′) where
-  fed-same : (o : Outcome) (b : Bool) → Fed o b size old new now → Fed o b size old′ new′ now′
-  unfolding Fed Same Mixed
-  fed-same (Refused n) b h = λ y l. sym (hw y l) ∙ h y l ∙ ho y l
-  fed-same (Finished u) b h = λ y l. sym (hw y l) ∙ h y l ∙ hn y l
-  fed-same (Stopped u) true (inl h) = inl (λ y l. sym (hw y l) ∙ h y l ∙ ho y l)
-  fed-same (Stopped u) true (inr h) = inr (λ y l. sym (hw y l) ∙ h y l ∙ hn y l)
-  fed-same (Stopped u) false h = λ y l. go y l (h y l)
-    where
-      go : (y : ℕ) → y < size → (now y ≡ old y) ⊎ (now y ≡ new y) → (now′ y ≡ old′ y) ⊎ (now′ y ≡ new′ y)
-      go y l (inl e) = inl (sym (hw y l) ∙ e ∙ ho y l)
-      go y l (inr e) = inr (sym (hw y l) ∙ e ∙ hn y l)
 
 -- ---- one call
 unfoldable ExactBy : (s : List ℕ) → Facts s → Request → Outcome → List ℕ → Type 0

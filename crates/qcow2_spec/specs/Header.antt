@@ -1,5 +1,5 @@
 -- The header's fields, their limits, and the numbers 1 to 10 and 18. Paper 01, "What counts as an image" and the table of numbers;
--- paper 02, T-02.
+-- paper 02, T-02 and T-03.
 -- Assumes nothing.
 use Prim.Native.Nat.{ℕ, _+_, _*_, _/_, _%_, _^_}
 use mathlib.Core.Bool.{Bool, not, _&&_, _||_}
@@ -83,9 +83,17 @@ tableClusters s = be32 s 56
 abbrev pub snapshots : List ℕ → ℕ
 snapshots s = be32 s 60
 
--- the features that a program must know to open the image; version 3 alone has this field and the next two
+-- the features that a program must know to open the image; version 3 alone has this field and the next three
 abbrev pub incompatible : List ℕ → ℕ
 incompatible s = be64 s 72
+
+-- the place of the autoclear features, which a program that doesn't know them must clear before it stores anything
+abbrev pub autoclearAt : ℕ
+autoclearAt = 88
+
+-- the autoclear features; 0: none
+unfoldable pub autoclear : List ℕ → ℕ
+autoclear s = if eqb (version s) 3 then be64 s autoclearAt else 0
 
 -- the width of a count as a power of two
 abbrev pub refcountOrder : List ℕ → ℕ

@@ -1,4 +1,4 @@
--- The lists of units of a write and a discard. Paper 01, "Storing, unit by unit", with the numbers 11 to 14 and 16.
+-- The lists of units of a write and a discard. Paper 01, "Storing, unit by unit", with the numbers 11 to 14 and 16; paper 02, T-03.
 -- All places and values are worked out from the image s as it was on entry.
 -- Assumes nothing.
 use Prim.Native.Nat.{ℕ, _+_, _-_, _*_, _/_, _%_}
@@ -9,16 +9,26 @@ use lib.ListN.{length, replicate}
 use Rattle.choice.specs.Pick.{if_then_else_, unless}
 use Rattle.units.specs.Units.{UnitStore, entry, fill, cluster}
 use Rattle.units.specs.Plan.{Plan, refused, units}
-use Rattle.qcow2_spec.specs.Header.{clusterSize, clusters, diskSize, perTable, judge}
+use Rattle.qcow2_spec.specs.Header.{autoclearAt, autoclear, clusterSize, clusters, diskSize, perTable, judge}
 use Rattle.qcow2_spec.specs.Entries.{place, zeroMark, newEntry}
 use Rattle.qcow2_spec.specs.Counts.{countOf, setCount, freeFrom}
 use Rattle.qcow2_spec.specs.Guest.{way, l1EntryAt, outside}
 use Rattle.qcow2_spec.specs.declared.Way.{Way}
 use Rattle.qcow2_spec.specs.declared.Way.the-variants.{Bad, NoTable, Slot}
 
+-- the unit that clears the autoclear field; none where the field is zero already
+unfoldable pub clearUnits : List ℕ → List UnitStore
+clearUnits s = if eqb (autoclear s) 0 then [] else entry autoclearAt 0 ∷ []
+
+-- a list that has a unit comes after the clearing one
+unfoldable pub clearing : List ℕ → Plan → Plan
+clearing s (refused k) = refused k
+clearing s (units []) = units []
+clearing s (units (u ∷ us)) = units (clearUnits s ++ u ∷ us)
+
 -- a call on the image s that would have plan p: first the image is judged
 unfoldable pub judged : List ℕ → Plan → Plan
-judged s p = unless (judge s) refused p
+judged s p = unless (judge s) refused (clearing s p)
 
 -- cluster k is allotted: its count becomes 1, then its bytes are filled
 unfoldable pub allot : List ℕ → ℕ → List ℕ → List UnitStore

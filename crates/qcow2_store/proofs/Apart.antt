@@ -1,13 +1,13 @@
--- Where no cluster has two references, the counts lie apart from each other and from the refcount table. Assumes nothing.
+-- Where no cluster has two references, the counts lie apart from each other, from the refcount table and from the header. Assumes nothing.
 use Prim.Native.Nat.{ℕ, zero, suc, _+_, _*_, _/_, _%_, _≤_, _<_}
-use native.Mathlib.Nat.{div-add-mod', mod-lt, mul-le-mul-right, not-suc-le-zero, div-lt-iff-lt-mul}
+use native.Mathlib.Nat.{div-add-mod', mod-lt, mod-eq-of-lt, mul-le-mul-right, not-suc-le-zero, zero-mul, div-lt-iff-lt-mul, zero-div}
 use native.Mathlib.Omega.{arith}
 use mathlib.Core.Path.{_≡_, refl, sym, ap, _∙_}
 use mathlib.Core.Bool.{Bool, true, false}
 use mathlib.Core.Logic.{_⊎_, inl, inr}
 use mathlib.Core.List.{List, _∷_, _++_}
 use lib.Dec.{ltb}
-use lib.ListN.{drop}
+use lib.ListN.{take, drop}
 use borrow.Author.Tests.{ne-eqb, ltb-true, ltb-false}
 use Rattle.choice.specs.Pick.{ceilDiv}
 use Rattle.endian.specs.Big.{be64, entries}
@@ -18,7 +18,7 @@ use Rattle.qcow2_spec.specs.Counts.{countAt}
 use Rattle.qcow2_spec.specs.References.{named, fixedRefs, references, l1Refs, l1Entries}
 use Rattle.endian.proofs.Entries.{be64-drop, take-entries}
 use Rattle.qcow2_spec.proofs.Numbers.{next-number}
-use Rattle.qcow2_spec.proofs.Facts.{Facts, c-pos, c-2, c-8, h-pos, in-block, block-named, n-whole}
+use Rattle.qcow2_spec.proofs.Facts.{Facts, c-big, c-pos, c-2, c-8, n-pos, h-pos, in-block, block-named, n-whole}
 use Rattle.qcow2_spec.proofs.Refers.{occ-append}
 use Rattle.qcow2_store.specs.Leaks.{Apart}
 
@@ -74,6 +74,14 @@ div-up j k c p h =
     let g : j / c < suc (k / c) = div-lt-iff-lt-mul p .1 (omega (arith, div-add-mod' k c, mod-lt k p)) in
     omega arith
 
+-- a place of a cluster that is not the first
+past-first : (C p : ℕ) → p % C ≡ 0 → (p ≡ 0 → ⊥) → C ≤ p
+past-first C p e z = not-lt-le (λ l. z (sym (mod-eq-of-lt l) ∙ e))
+
+some-left : (a b : ℕ) → 0 < a * b → 0 < a
+some-left zero b h = absurd (not-suc-le-zero (rw (zero-mul b) at h))
+some-left (suc a) b h = omega arith
+
 -- two places of clusters, one below the other
 below : (C p q : ℕ) → p % C ≡ 0 → q % C ≡ 0 → p / C < q / C → p + C ≤ q
 below C p q x y h = omega (arith, div-add-mod' p C, div-add-mod' q C, mul-le-mul-right C h)
@@ -92,6 +100,30 @@ module _ (s : List ℕ) (f : Facts s) (alone : (k : ℕ) → k < clusters s → 
       let R : List ℕ = joined (l1Refs s) (l1Entries s) in
       let x = rw (take-entries (blocks s) (tableClusters s * perTable s) (drop (tableAt s) s) (f .enough)) at (alone k h) in
       omega (arith, rw (occ-append k ((0 ∷ tableRefs) ++ L ++ nameRefs) R, occ-append k ((0 ∷ tableRefs) ++ L) nameRefs, occ-append k (0 ∷ tableRefs) L) at x, occurs-more k 0 tableRefs)
+
+  -- the refcount table has a cluster, and none of them is the header's
+  has-table : 0 < tableClusters s
+  has-table = some-left (tableClusters s) (perTable s) (omega (arith, in-block s f 0 (n-pos s f), f .enough))
+
+  not-first : occurrences 0 tableRefs ≡ 0
+  unfolding references fixedRefs
+  not-first =
+      let L : List ℕ = run (l1At s / clusterSize s) (ceilDiv (8 * l1Size s) (clusterSize s)) in
+      let B : List ℕ = joined (named (clusterSize s)) (take (blocks s) (table s)) in
+      let R : List ℕ = joined (l1Refs s) (l1Entries s) in
+      omega (arith, rw (occ-append 0 ((0 ∷ tableRefs) ++ L ++ B) R, occ-append 0 ((0 ∷ tableRefs) ++ L) B, occ-append 0 (0 ∷ tableRefs) L) at (alone 0 (n-pos s f)), occurs-head 0 0 tableRefs refl)
+
+  past-table : 512 ≤ tableAt s
+  past-table =
+      let z : tableAt s ≡ 0 → ⊥ = λ e. let q : tableAt s / clusterSize s ≡ 0 = rw e (zero-div (clusterSize s)) in
+      omega (arith, in-run (tableAt s / clusterSize s) (tableClusters s) 0 (omega arith) (omega (arith, has-table)), not-first) in
+      omega (arith, past-first (clusterSize s) (tableAt s) (f .table-whole) z, c-big s f)
+
+  past-count : (k : ℕ) → k < clusters s → 512 ≤ countAt s k
+  unfolding countAt
+  past-count k h =
+      let n = block-named s f (k / perBlock s) (in-block s f k h) in
+      omega (arith, past-first (clusterSize s) (blockAt s (k / perBlock s)) (n .1 .0) (n .0), c-big s f)
 
   names : (b : ℕ) → b < blocks s → Names (clusterSize s) (blockAt s b / clusterSize s) (drop (tableAt s) s) b
   unfolding blockAt
@@ -165,4 +197,4 @@ module _ (s : List ℕ) (f : Facts s) (alone : (k : ℕ) → k < clusters s → 
           inr (omega (arith, e8, f .enough, div-add-mod' (tableAt s) (clusterSize s), f .table-whole, div-add-mod' (blockAt s (j / perBlock s)) (clusterSize s), w, mul-le-mul-right (clusterSize s) m))
 
   pub apart : Apart s
-  apart = record { counts = apart-counts; table = apart-table }
+  apart = record { counts = apart-counts; table = apart-table; past = past-count; table-past = past-table }

@@ -1,58 +1,67 @@
--- The returns of a discard. Assumes nothing.
-use Prim.Native.Nat.{ℕ, _-_, _/_}
-use mathlib.Core.Path.{_≡_, refl}
+-- What a discard is found to be. Assumes nothing.
+use Prim.Native.Nat.{ℕ, _+_, _-_, _/_, _≤_, _<_}
+use native.Mathlib.Omega.{arith}
+use mathlib.Core.Path.{_≡_}
 use mathlib.Core.List.{List, [], _∷_}
 use lib.Dec.{eqb}
+use lib.ListN.{length}
 use borrow.Author.Tests.{eq-eqb, ne-eqb}
 use Rattle.choice.specs.Pick.{if_then_else_}
-use Rattle.units.specs.Units.{entry, count}
-use Rattle.units.specs.Plan.{refused, units, ended, Done}
-use Rattle.units.specs.declared.Outcome.{Outcome}
-use Rattle.units.specs.declared.Outcome.the-variants.{Refused}
-use Rattle.units.proofs.Steps.{refusal, nothing}
+use Rattle.units.specs.Units.{entry}
+use Rattle.units.specs.Plan.{Plan, refused, units}
 use Rattle.qcow2_spec.specs.Header.{clusterSize}
 use Rattle.qcow2_spec.specs.Entries.{place}
 use Rattle.qcow2_spec.specs.Counts.{countAt, countOf, setCount}
 use Rattle.qcow2_spec.specs.Store.{discardSlot, discardWay}
 use Rattle.qcow2_spec.specs.declared.Way.{Way}
 use Rattle.qcow2_spec.specs.declared.Way.the-variants.{Bad, NoTable, Slot}
+use Rattle.qcow2_store.specs.Jobs.{Releases, freedUnits}
+use Rattle.qcow2_store.specs.declared.discarding.Freed.{Freed}
+use Rattle.qcow2_store.specs.declared.discarding.Freed.the-variants.{Entry, Counted}
+use Rattle.qcow2_store.specs.declared.discarding.Release.{Release}
+use Rattle.qcow2_store.specs.declared.discarding.Release.the-variants.{Refuse, Nothing, Store}
 
-module _ (s : List ℕ) (at a : ℕ) where
+pub freed-some : (f : Freed) → 0 < length (freedUnits f)
+freed-some (Entry a) = omega arith
+freed-some (Counted a k v) = omega arith
+
+module _ (s : List ℕ) (m at : ℕ) where
   -- cluster k's count is 0, or falls
   module _ (k : ℕ) where
-    pub uncounted : countOf s k ≡ 0 → Done (if eqb (countOf s k) 0 then refused 16 else units (entry at 0 ∷ setCount s k (countOf s k - 1) ∷ [])) a s (Refused 16) s
-    uncounted z = rw (eq-eqb (countOf s k) 0 z) (refusal 16 a s (Refused 16) refl)
+    abbrev falling : Plan
+    falling = if eqb (countOf s k) 0 then refused 16 else units (entry at 0 ∷ setCount s k (countOf s k - 1) ∷ [])
 
-    pub freed : (r : Outcome) (t : List ℕ) (p n : ℕ) → p ≡ countAt s k → n ≡ countOf s k → (n ≡ 0 → ⊥) → Done (units (entry at 0 ∷ count p (n - 1) ∷ [])) a s r t
-        → Done (if eqb (countOf s k) 0 then refused 16 else units (entry at 0 ∷ setCount s k (countOf s k - 1) ∷ [])) a s r t
+    pub uncounted : countOf s k ≡ 0 → Releases m (Refuse 16) falling
+    uncounted z = record { same = rw (eq-eqb (countOf s k) 0 z); inside = tt }
+
+    pub falls : (p n : ℕ) → p ≡ countAt s k → n ≡ countOf s k → (n ≡ 0 → ⊥) → at + 8 ≤ m → p + 2 ≤ m → Releases m (Store (Counted at p (n - 1))) falling
     unfolding setCount
-    freed r t p n f c m h = rw (← c, ne-eqb n 0 m, ← f) h
+    falls p n f c z a b = record { same = rw (← c, ne-eqb n 0 z, ← f); inside = (a, b) }
 
   -- the entry e: 0, without a place, or with one
   module _ (e : ℕ) where
-    pub idle : (r : Outcome) → e ≡ 0 → r ≡ ended 0 a → Done (discardSlot s at e) a s r s
+    pub idle : e ≡ 0 → Releases m Nothing (discardSlot s at e)
     unfolding discardSlot
-    idle r z h = rw (eq-eqb e 0 z) (nothing a s r h)
+    idle z = record { same = rw (eq-eqb e 0 z); inside = tt }
 
-    pub cleared : (r : Outcome) (t : List ℕ) → (e ≡ 0 → ⊥) → place e ≡ 0 → Done (units (entry at 0 ∷ [])) a s r t → Done (discardSlot s at e) a s r t
+    pub emptied : (e ≡ 0 → ⊥) → place e ≡ 0 → at + 8 ≤ m → Releases m (Store (Entry at)) (discardSlot s at e)
     unfolding discardSlot
-    cleared r t z p h = rw (ne-eqb e 0 z, eq-eqb (place e) 0 p) h
+    emptied z p h = record { same = rw (ne-eqb e 0 z, eq-eqb (place e) 0 p); inside = h }
 
-    pub given-up : (r : Outcome) (t : List ℕ) (k : ℕ) → (e ≡ 0 → ⊥) → (place e ≡ 0 → ⊥) → k ≡ place e / clusterSize s
-        → Done (if eqb (countOf s k) 0 then refused 16 else units (entry at 0 ∷ setCount s k (countOf s k - 1) ∷ [])) a s r t → Done (discardSlot s at e) a s r t
+    pub given-up : (r : Release) (k : ℕ) → (e ≡ 0 → ⊥) → (place e ≡ 0 → ⊥) → k ≡ place e / clusterSize s → Releases m r (falling k) → Releases m r (discardSlot s at e)
     unfolding discardSlot
-    given-up r t k z p f h = rw (ne-eqb e 0 z, ne-eqb (place e) 0 p, ← f) h
+    given-up r k z p f h = record { same = rw (ne-eqb e 0 z, ne-eqb (place e) 0 p, ← f) (h .same); inside = h .inside }
 
 -- by the way
-module _ (s : List ℕ) (w : Way) (a : ℕ) where
-  pub discard-bad : (k : ℕ) → w ≡ Bad k → Done (discardWay s w) a s (Refused k) s
+module _ (s : List ℕ) (m : ℕ) (w : Way) where
+  pub discard-bad : (k : ℕ) → w ≡ Bad k → Releases m (Refuse k) (discardWay s w)
   unfolding discardWay
-  discard-bad k q = rw q (refusal k a s (Refused k) refl)
+  discard-bad k q = record { same = rw q; inside = tt }
 
-  pub discard-none : (r : Outcome) → w ≡ NoTable → r ≡ ended 0 a → Done (discardWay s w) a s r s
+  pub discard-none : w ≡ NoTable → Releases m Nothing (discardWay s w)
   unfolding discardWay
-  discard-none r q e = rw q (nothing a s r e)
+  discard-none q = record { same = rw q; inside = tt }
 
-  pub discard-there : (r : Outcome) (t : List ℕ) (p e : ℕ) → w ≡ Slot p e → Done (discardSlot s p e) a s r t → Done (discardWay s w) a s r t
+  pub discard-there : (r : Release) (p e : ℕ) → w ≡ Slot p e → Releases m r (discardSlot s p e) → Releases m r (discardWay s w)
   unfolding discardWay
-  discard-there r t p e q h = rw q h
+  discard-there r p e q h = record { same = rw q (h .same); inside = h .inside }

@@ -3,6 +3,7 @@ pub mod Counts
 pub mod Pairs
 pub mod Slots
 pub mod Discards
+pub mod Clears
 pub mod Writes
 pub mod Links
 pub mod Fixes

@@ -30,7 +30,7 @@ module _ (g : Geometry) (s : List ℕ) (o : Opened g s) (x : ℕ) where
     unfolding places
     places-are v w c z m n a b e f = rw (n, a, b, e, f, o .is-cluster, o .is-per)
 
-    pub places-in : l1EntryAt s x + 8 ≤ length s → t < g .clusters → k < g .clusters → Linked s (places s x t k) (2 ^ g .bits)
+    pub places-in : l1EntryAt s x + 8 ≤ length s → t < g .clusters → k < g .clusters → Linked (length s) (places s x t k) (2 ^ g .bits)
     unfolding places
     places-in h i j =
         let f = sizes g s o .all in

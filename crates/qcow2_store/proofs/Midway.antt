@@ -1,135 +1,133 @@
 -- A repair midway: what it reads is what stood there on entry, since the counts lie apart. Assumes nothing.
-use Prim.Native.Nat.{ℕ, zero, suc, _+_, _-_, _*_, _/_, _%_, _^_, _≤_, _<_}
-use native.Mathlib.Nat.{add-zero, add-suc, suc-add, zero-add}
+use Prim.Native.Nat.{ℕ, zero, suc, _+_, _-_, _*_, _%_, _^_, _≤_, _<_}
+use native.Mathlib.Nat.{add-zero, add-suc, mod-lt}
 use native.Mathlib.Omega.{arith}
-use mathlib.Core.Path.{_≡_, refl, sym, ap, _∙_}
+use mathlib.Core.Path.{_≡_, refl, sym, ap, subst, _∙_}
 use mathlib.Core.Logic.{_⊎_}
 use mathlib.Core.List.{List, _++_, append-assoc, append-nil}
 use lib.ListN.{length, take, drop, getD, length-append, length-take, length-drop}
+use lib.Pow.{pow-pos}
 use lib.Seq.{take-nil, getD-take, getD-drop, length-take-le}
 use Rattle.endian.specs.Big.{be16, be64}
 use Rattle.endian.proofs.Laws.{be16-same, be64-same}
-use Rattle.units.specs.Units.{UnitStore, applyAll}
+use Rattle.units.specs.Units.{applyAll}
+use Rattle.units.specs.Plan.{units, ended, Done}
+use Rattle.units.specs.declared.Outcome.{Outcome}
 use Rattle.units.proofs.Laws.{length-applyAll}
-use Rattle.units.proofs.Steps.{two}
+use Rattle.units.proofs.Steps.{two, stored}
 use Rattle.units.proofs.Elsewhere.{Off, none, off-append, untouched}
 use Rattle.tally.proofs.Laws.{length-figures}
-use Rattle.qcow2_spec.specs.Header.{clusters, blocks}
-use Rattle.qcow2_spec.specs.Counts.{countAt, countOf, setCount}
+use Rattle.qcow2_spec.specs.Header.{clusters}
 use Rattle.qcow2_spec.specs.References.{figuresOf}
-use Rattle.qcow2_spec.specs.Check.{repairUnits}
-use Rattle.qcow2_spec.specs.Opened.{Opened}
 use Rattle.qcow2_spec.specs.declared.Geometry.{Geometry}
-use Rattle.qcow2_spec.proofs.Facts.{count-in}
-use Rattle.qcow2_store.specs.Blocks.{Reach, countPlace}
-use Rattle.qcow2_store.specs.Leaks.{Apart, Figured, fix, fixes}
-use Rattle.qcow2_store.proofs.Sizes.{sizes, block-in, reach, count-is}
-use Rattle.qcow2_store.proofs.Counts.{run-count}
+use Rattle.qcow2_store.specs.Blocks.{Reach, countPlace, tablePlace}
+use Rattle.qcow2_store.specs.Leaks.{Figured, Laid, fixes, mendUnits}
+use Rattle.qcow2_store.proofs.Sizes.{halves}
+use Rattle.qcow2_store.proofs.Counts.{run-block, run-index}
 use Rattle.qcow2_store.proofs.Fixes.{off-fix, fixes-most, fixes-same}
 
+-- ---- the places of the counts
+module _ (g : Geometry) (s : List ℕ) where
+  count-inside : (k : ℕ) → Reach g s k → countPlace g s k + 2 ≤ length s
+  count-inside k r = omega (arith, halves (g .bits) (r .low), mod-lt k (pow-pos (g .bits - 1)), r .named .inside)
+
+  -- those of one block stand one after another
+  next-place : (k d : ℕ) → k % 2 ^ (g .bits - 1) + d < 2 ^ (g .bits - 1) → countPlace g s (k + d) ≡ countPlace g s k + 2 * d
+  next-place k d h = let p = pow-pos (g .bits - 1) in rw (run-block k (2 ^ (g .bits - 1)) d p h, run-index k (2 ^ (g .bits - 1)) d p h) (omega arith)
+
 -- ---- the units of a repair
-module _ (s fs : List ℕ) where
-  -- the last cluster last
-  units-last : (i k : ℕ) → repairUnits s fs i (suc k) ≡ repairUnits s fs i k ++ fix s (countAt s (i + k)) (getD fs (i + k) 0)
-  unfolding repairUnits fix countOf setCount
-  units-last i zero = rw add-zero (append-nil _)
-  units-last i (suc k) =
-      rw (add-suc, ← suc-add, append-assoc) (ap (λ (us : List UnitStore). fix s (countAt s i) (getD fs i 0) ++ us) (units-last (suc i) k))
-
+module _ (g : Geometry) (s fs : List ℕ) where
   -- a run of clusters more, whose counts stand one after another
-  units-run : (i at : ℕ) (vs : List ℕ) (m : ℕ) → ((d : ℕ) → d < m → countAt s (i + d) ≡ at + 2 * d) → ((d : ℕ) → d < m → getD vs d 0 ≡ getD fs (i + d) 0)
-      → repairUnits s fs 0 (i + m) ≡ repairUnits s fs 0 i ++ fixes s at vs m
-  unfolding fixes
-  units-run i at vs zero p f = rw add-zero (sym (append-nil (repairUnits s fs 0 i)))
+  units-run : (i at : ℕ) (vs : List ℕ) (m : ℕ) → ((d : ℕ) → d < m → countPlace g s (i + d) ≡ at + 2 * d) → ((d : ℕ) → d < m → getD vs d 0 ≡ getD fs (i + d) 0)
+      → mendUnits g s fs (i + m) ≡ mendUnits g s fs i ++ fixes s at vs m
+  unfolding fixes mendUnits
+  units-run i at vs zero p f = rw add-zero (sym (append-nil (mendUnits g s fs i)))
   units-run i at vs (suc m) p f =
-      rw (add-suc, units-last, zero-add, units-run i at vs m (λ d l. p d (omega arith)) (λ d l. f d (omega arith)), p m (omega arith), f m (omega arith)) (append-assoc (repairUnits s fs 0 i) _ _)
+      rw (add-suc, units-run i at vs m (λ d l. p d (omega arith)) (λ d l. f d (omega arith)), p m (omega arith), f m (omega arith)) (append-assoc (mendUnits g s fs i) _ _)
 
-  off-units : (k x w n : ℕ) → ((j : ℕ) → j < k → (countAt s j + 2 ≤ n) × ((countAt s j + 2 ≤ x) ⊎ (x + w ≤ countAt s j))) → Off x w n (repairUnits s fs 0 k)
-  unfolding repairUnits
+  off-units : (k x w n : ℕ) → ((j : ℕ) → j < k → (countPlace g s j + 2 ≤ n) × ((countPlace g s j + 2 ≤ x) ⊎ (x + w ≤ countPlace g s j))) → Off x w n (mendUnits g s fs k)
+  unfolding mendUnits
   off-units zero x w n h = none
   off-units (suc k) x w n h =
-      let r = off-units k x w n (λ j l. h j (omega arith)) in
       let o = h k (omega arith) in
-      rw (units-last, zero-add) (off-append r (off-fix s (countAt s k) (getD fs k 0) x w n (o .0) (o .1)))
+      off-append (off-units k x w n (λ j l. h j (omega arith))) (off-fix s (countPlace g s k) (getD fs k 0) x w n (o .0) (o .1))
 
   -- the image after the units of the first k clusters, of which the allowance let some be stored
   abbrev pub midway : (a k : ℕ) → List ℕ
-  midway a k = applyAll (take a (repairUnits s fs 0 k)) s
+  midway a k = applyAll (take a (mendUnits g s fs k)) s
 
   -- the state of the repair before cluster k
   pub record State (a k n : ℕ) (t : List ℕ) : Type 0 where
-    pub spent : n ≡ length (repairUnits s fs 0 k)
+    pub spent : n ≡ length (mendUnits g s fs k)
     pub few : n ≤ k
     pub image : t ≡ midway a k
 
   pub state-first : (a : ℕ) → State a 0 0 s
-  unfolding repairUnits applyAll
+  unfolding mendUnits applyAll
   state-first a = record { spent = refl; few = omega arith; image = rw take-nil }
 
--- ---- what is read midway
-module _ (g : Geometry) (s fs : List ℕ) (o : Opened g s) (p : Apart s) (a k : ℕ) (h : k < g .clusters) where
-  in-s : k < clusters s
-  in-s = omega (arith, o .is-clusters)
+  pub state-last : (a k n : ℕ) (t : List ℕ) (r : Outcome) → State a k n t → k ≡ g .clusters → r ≡ ended n a → Done (units (mendUnits g s fs (g .clusters))) a s r t
+  state-last a k n t r st e q =
+      let x = subst (λ (j : ℕ). State a j n t) e st in
+      stored (mendUnits g s fs (g .clusters)) a s t r n (sym (x .spent)) q (x .image)
 
-  length-midway : length (midway s fs a k) ≡ length s
-  length-midway = length-applyAll (take a (repairUnits s fs 0 k)) s
+  -- ---- what is read midway
+  module _ (p : Laid g s) (a k : ℕ) (h : k < g .clusters) where
+    length-midway : length (midway a k) ≡ length s
+    length-midway = length-applyAll (take a (mendUnits g s fs k)) s
 
-  table-now : be64 (midway s fs a k) (g .table + 8 * (k / 2 ^ (g .bits - 1))) ≡ be64 s (g .table + 8 * (k / 2 ^ (g .bits - 1)))
-  table-now =
-      let b : k / 2 ^ (g .bits - 1) < blocks s = rw (← o .is-blocks) (block-in g s o k h) in
-      be64-same _ _ _ _ (untouched _ 8 (repairUnits s fs 0 k) s a (off-units s fs k (g .table + 8 * (k / 2 ^ (g .bits - 1))) 8 (length s)
-      (λ j l. (count-in s (sizes g s o .all) j (omega (arith, in-s)), rw (o .is-table) (p .table j (k / 2 ^ (g .bits - 1)) (omega (arith, in-s)) b)))))
+    table-now : be64 (midway a k) (tablePlace g k) ≡ be64 s (tablePlace g k)
+    table-now =
+        be64-same _ _ _ _ (untouched _ 8 (mendUnits g s fs k) s a (off-units k (tablePlace g k) 8 (length s)
+        (λ j l. (count-inside g s j (p .reach j (omega arith)), p .table j k (omega arith) h))))
 
-  place-now : countPlace g (midway s fs a k) k ≡ countAt s k
-  place-now = rw table-now (count-is g s o k)
+    place-now : countPlace g (midway a k) k ≡ countPlace g s k
+    place-now = rw table-now
 
-  reach-now : Reach g (midway s fs a k) k
-  reach-now =
-      let r = reach g s o k h in
-      record {
-        low = r .low;
-        high = r .high;
-        named = record { entered = rw length-midway (r .named .entered); short = rw length-midway (r .named .short); inside = rw (length-midway, table-now) (r .named .inside) };
-      }
+    reach-now : Reach g (midway a k) k
+    reach-now =
+        let r = p .reach k h in
+        record {
+          low = r .low;
+          high = r .high;
+          named = record { entered = rw length-midway (r .named .entered); short = rw length-midway (r .named .short); inside = rw (length-midway, table-now) (r .named .inside) };
+        }
 
-  counts-now : (d : ℕ) → k + d < g .clusters → be16 (midway s fs a k) (countAt s (k + d)) ≡ be16 s (countAt s (k + d))
-  counts-now d l =
-      let m : k + d < clusters s = omega (arith, o .is-clusters) in
-      be16-same _ _ _ _ (untouched _ 2 (repairUnits s fs 0 k) s a (off-units s fs k (countAt s (k + d)) 2 (length s)
-      (λ j q. (count-in s (sizes g s o .all) j (omega (arith, in-s)), p .counts j (k + d) (omega arith) m))))
+    counts-now : (d : ℕ) → k + d < g .clusters → be16 (midway a k) (countPlace g s (k + d)) ≡ be16 s (countPlace g s (k + d))
+    counts-now d l =
+        be16-same _ _ _ _ (untouched _ 2 (mendUnits g s fs k) s a (off-units k (countPlace g s (k + d)) 2 (length s)
+        (λ j q. (count-inside g s j (p .reach j (omega arith)), p .counts j (k + d) (omega arith) l))))
 
-  -- the same of the code's image and numbers
-  pub found-reach : (t : List ℕ) → t ≡ midway s fs a k → Reach g t k
-  found-reach t e = rw e reach-now
+    -- the same of the code's image and numbers
+    pub found-reach : (t : List ℕ) → t ≡ midway a k → Reach g t k
+    found-reach t e = rw e reach-now
 
-  -- one run of clusters
-  pub state-next : (n : ℕ) (t vs : List ℕ) (m r : ℕ) (u : List ℕ) → State s fs a k n t → k + m ≤ g .clusters → k % 2 ^ (g .bits - 1) + m ≤ 2 ^ (g .bits - 1)
-      → ((d : ℕ) → d < m → getD vs d 0 ≡ getD fs (k + d) 0)
-      → r ≡ n + length (fixes t (countPlace g t k) vs m) → u ≡ applyAll (take (a - n) (fixes t (countPlace g t k) vs m)) t → State s fs a (k + m) r u
-  state-next n t vs m r u st l w f x y =
-      let z = sizes g s o in
-      let at : ℕ = countAt s k in
-      let c : (d : ℕ) → d < m → countAt s (k + d) ≡ at + 2 * d = λ d q. omega (arith, run-count s k (2 ^ (g .bits - 1)) (z .half) (z .some) d (omega arith), run-count s k (2 ^ (g .bits - 1)) (z .half) (z .some) 0 (omega arith), ap (countAt s) (add-zero k)) in
-      let e : fixes t (countPlace g t k) vs m ≡ fixes s at vs m =
-      rw (st .image, place-now) (fixes-same s at vs (midway s fs a k) m (λ d q. rw (← c d q) (counts-now d (omega arith)))) in
-      let v = units-run s fs k at vs m c f in
-      let X : r ≡ n + length (fixes s at vs m) = rw e at x in
-      record {
-        spent = rw (v, length-append, ← st .spent) X;
-        few = omega (arith, fixes-most s at vs m, st .few);
-        image = rw v (two (repairUnits s fs 0 k) (fixes s at vs m) s t u a (a - n) n (sym (st .spent)) refl (st .image) (rw e at y));
-      }
+    -- one run of clusters
+    pub state-next : (n : ℕ) (t vs : List ℕ) (m r : ℕ) (u : List ℕ) → State a k n t → k + m ≤ g .clusters → k % 2 ^ (g .bits - 1) + m ≤ 2 ^ (g .bits - 1)
+        → ((d : ℕ) → d < m → getD vs d 0 ≡ getD fs (k + d) 0)
+        → r ≡ n + length (fixes t (countPlace g t k) vs m) → u ≡ applyAll (take (a - n) (fixes t (countPlace g t k) vs m)) t → State a (k + m) r u
+    state-next n t vs m r u st l w f x y =
+        let at : ℕ = countPlace g s k in
+        let c : (d : ℕ) → d < m → countPlace g s (k + d) ≡ at + 2 * d = λ d q. next-place g s k d (omega arith) in
+        let e : fixes t (countPlace g t k) vs m ≡ fixes s at vs m =
+        rw (st .image, place-now) (fixes-same s at vs (midway a k) m (λ d q. rw (← c d q) (counts-now d (omega arith)))) in
+        let v = units-run k at vs m c f in
+        let X : r ≡ n + length (fixes s at vs m) = rw e at x in
+        record {
+          spent = rw (v, length-append, ← st .spent) X;
+          few = omega (arith, fixes-most s at vs m, st .few);
+          image = rw v (two (mendUnits g s fs k) (fixes s at vs m) s t u a (a - n) n (sym (st .spent)) refl (st .image) (rw e at y));
+        }
 
--- ---- the figures
-module _ (s refs : List ℕ) (f : Figured s refs) where
-  pub refs-long : clusters s ≤ length refs
-  unfolding figuresOf
-  refs-long = omega (arith, sym (length-take (clusters s) refs) ∙ ap length f ∙ length-figures _ 0 (clusters s))
+-- ---- the scratch
+pub refs-long : (s refs : List ℕ) → Figured s refs → clusters s ≤ length refs
+unfolding figuresOf
+refs-long s refs f = omega (arith, sym (length-take (clusters s) refs) ∙ ap length f ∙ length-figures _ 0 (clusters s))
 
-  -- a part of the scratch
-  pub part-long : (i m q : ℕ) → i + m ≤ clusters s → q ≡ m → length (take q (drop i refs)) ≡ m
-  part-long i m q h e = rw e (length-take-le m (drop i refs) (simp length-drop (omega (arith, refs-long))))
+-- a part of it
+module _ (refs : List ℕ) (i m q : ℕ) (e : q ≡ m) where
+  pub part-long : i + m ≤ length refs → length (take q (drop i refs)) ≡ m
+  part-long h = rw e (length-take-le m (drop i refs) (simp length-drop (omega arith)))
 
-  pub part-figures : (i m q : ℕ) → i + m ≤ clusters s → q ≡ m → (d : ℕ) → d < m → getD (take q (drop i refs)) d 0 ≡ getD (figuresOf s) (i + d) 0
-  part-figures i m q h e d l =
-      rw (e, getD-take m (drop i refs) d 0 l, getD-drop, ← f, getD-take (clusters s) refs (i + d) 0 (omega arith))
+  pub part-figures : (d : ℕ) → d < m → getD (take q (drop i refs)) d 0 ≡ getD refs (i + d) 0
+  part-figures d l = rw (e, getD-take m (drop i refs) d 0 l, getD-drop)

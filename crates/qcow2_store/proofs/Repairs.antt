@@ -1,35 +1,102 @@
--- The returns of a repair by the verdict. Assumes nothing.
-use Prim.Native.Nat.{ℕ}
-use mathlib.Core.Path.{_≡_, refl}
-use mathlib.Core.List.{List}
-use Rattle.units.specs.Plan.{refused, units, ended, Done}
-use Rattle.units.specs.declared.Outcome.{Outcome}
-use Rattle.units.specs.declared.Outcome.the-variants.{Refused}
-use Rattle.units.proofs.Steps.{refusal, nothing}
+-- A repair of a leaking image, once the autoclear field may be cleared. Assumes nothing.
+use Prim.Native.Nat.{ℕ, zero, suc, _+_, _/_, _-_, _^_, _≤_, _<_}
+use native.Mathlib.Nat.{add-zero, add-suc, suc-add, zero-add}
+use native.Mathlib.Omega.{arith}
+use mathlib.Core.Path.{_≡_, refl, sym, ap, _∙_}
+use mathlib.Core.List.{List, _++_, append-assoc, append-nil}
+use lib.ListN.{length, take, getD}
+use lib.Seq.{getD-take}
+use Rattle.endian.specs.Big.{be64}
+use Rattle.endian.proofs.Laws.{Same, be16-same, be64-same}
+use Rattle.units.specs.Units.{UnitStore, applyAll}
+use Rattle.units.proofs.Laws.{length-applyAll}
 use Rattle.qcow2_spec.specs.Header.{clusters}
+use Rattle.qcow2_spec.specs.Counts.{countAt, countOf, setCount}
+use Rattle.qcow2_spec.specs.Store.{clearUnits}
 use Rattle.qcow2_spec.specs.References.{figuresOf}
-use Rattle.qcow2_spec.specs.Check.{repairUnits, verdict, verdictPlan}
+use Rattle.qcow2_spec.specs.Check.{repairUnits, verdict}
 use Rattle.qcow2_spec.specs.Opened.{Opened}
 use Rattle.qcow2_spec.specs.declared.Geometry.{Geometry}
-use Rattle.qcow2_spec.specs.declared.Verdict.{Verdict}
-use Rattle.qcow2_spec.specs.declared.Verdict.the-variants.{Sound, Leaks}
-use Rattle.qcow2_store.specs.Leaks.{Figured, Leaking}
-use Rattle.qcow2_store.proofs.Sizes.{sizes}
-use Rattle.qcow2_store.proofs.Alone.{alone}
+use Rattle.qcow2_spec.specs.declared.Verdict.the-variants.{Leaks}
+use Rattle.qcow2_store.specs.Blocks.{countPlace, tablePlace}
+use Rattle.qcow2_store.specs.Leaks.{Figured, Laid, Leaking, fix, mendUnits}
+use Rattle.qcow2_store.proofs.Sizes.{sizes, block-in, reach, count-is}
+use Rattle.qcow2_store.proofs.Clears.{clear-keeps}
+use Rattle.qcow2_store.proofs.Fixes.{fix-same}
+use Rattle.qcow2_store.proofs.Alone.{alone, some-leak}
 use Rattle.qcow2_store.proofs.Apart.{apart}
 
 -- what a repair is told holds after a check that said leaks
 pub leaking : (g : Geometry) (s refs : List ℕ) (m : ℕ) → Opened g s → Figured s refs → verdict s ≡ Leaks m → Leaking g s refs
-leaking g s refs m o f v = record { opened = o; apart = apart s (sizes g s o .all) (alone m s v); figures = f }
+leaking g s refs m o f v = record { opened = o; apart = apart s (sizes g s o .all) (alone m s v); figures = f; some = some-leak m s v }
 
-module _ (s : List ℕ) (v : Verdict) (a : ℕ) where
-  pub is-sound : (r : Outcome) → v ≡ Sound → r ≡ ended 0 a → Done (verdictPlan s v) a s r s
-  unfolding verdictPlan
-  is-sound r q e = rw q (nothing a s r e)
+-- ---- the list of the definition is the one of the code
+-- the last cluster last
+units-last : (s fs : List ℕ) (i k : ℕ) → repairUnits s fs i (suc k) ≡ repairUnits s fs i k ++ fix s (countAt s (i + k)) (getD fs (i + k) 0)
+unfolding repairUnits fix countOf setCount
+units-last s fs i zero = rw add-zero (append-nil _)
+units-last s fs i (suc k) =
+    rw (add-suc, ← suc-add, append-assoc) (ap (λ (us : List UnitStore). fix s (countAt s i) (getD fs i 0) ++ us) (units-last s fs (suc i) k))
 
-  pub repaired : (r : Outcome) (t : List ℕ) (m : ℕ) → v ≡ Leaks m → Done (units (repairUnits s (figuresOf s) 0 (clusters s))) a s r t → Done (verdictPlan s v) a s r t
-  unfolding verdictPlan
-  repaired r t m q h = rw q h
+mend-is : (g : Geometry) (s fs gs : List ℕ) → Opened g s → (k : ℕ) → ((j : ℕ) → j < k → getD gs j 0 ≡ getD fs j 0) → mendUnits g s gs k ≡ repairUnits s fs 0 k
+unfolding mendUnits repairUnits
+mend-is g s fs gs o zero h = refl
+mend-is g s fs gs o (suc k) h =
+    rw (units-last, zero-add, mend-is g s fs gs o k (λ j l. h j (omega arith)), count-is g s o k, h k (omega arith))
 
-  pub is-refused : (w : Verdict) (k : ℕ) → v ≡ w → verdictPlan s w ≡ refused k → Done (verdictPlan s v) a s (Refused k) s
-  is-refused w k q p = rw (q, p) (refusal k a s (Refused k) refl)
+-- ---- a cleared field
+-- t is s but for bytes before the refcount table and the counts
+pub record Kept (s t : List ℕ) : Type 0 where
+  pub long : length t ≡ length s
+  pub same : (x w : ℕ) → 96 ≤ x → Same t x s x w
+
+pub cleared-kept : (s t : List ℕ) (a : ℕ) → 512 ≤ length s → t ≡ applyAll (take a (clearUnits s)) s → Kept s t
+cleared-kept s t a h e =
+    record { long = rw e (length-applyAll (take a (clearUnits s)) s); same = λ x w l. rw e (clear-keeps s a x w (omega arith) l) }
+
+module _ (g : Geometry) (s refs : List ℕ) (l : Leaking g s refs) where
+  in-s : (k : ℕ) → k < g .clusters → k < clusters s
+  in-s k h = rw (l .opened .is-clusters) at h
+
+  laid : Laid g s
+  laid =
+      let o = l .opened in
+      let z = sizes g s o in
+      record {
+        few = z .few;
+        low = omega (arith, o .low);
+        high = o .high;
+        reach = reach g s o;
+        counts = λ j k h m. rw (count-is g s o j, count-is g s o k) (l .apart .counts j k h (in-s k m));
+        table = λ j k h m. rw (count-is g s o j, o .is-table) (l .apart .table j (k / 2 ^ (g .bits - 1)) (in-s j h) (rw (o .is-blocks) at (block-in g s o k m)));
+      }
+
+  module _ (t : List ℕ) (e : Kept s t) where
+    table-kept : (k : ℕ) → be64 t (tablePlace g k) ≡ be64 s (tablePlace g k)
+    table-kept k = be64-same _ _ _ _ (e .same (tablePlace g k) 8 (omega (arith, l .apart .table-past, l .opened .is-table)))
+
+    pub laid-kept : Laid g t
+    laid-kept =
+        record {
+          few = laid .few;
+          low = laid .low;
+          high = laid .high;
+          reach = λ k h. let r = laid .reach k h in
+              record { low = r .low; high = r .high; named = record { entered = rw (e .long) (r .named .entered); short = rw (e .long) (r .named .short); inside = rw (e .long, table-kept k) (r .named .inside) } };
+          counts = λ j k h m. rw (table-kept j, table-kept k) (laid .counts j k h m);
+          table = λ j k h m. rw (table-kept j) (laid .table j k h m);
+        }
+
+    mend-kept : (k : ℕ) → k ≤ g .clusters → mendUnits g t refs k ≡ mendUnits g s refs k
+    unfolding mendUnits
+    mend-kept zero h = refl
+    mend-kept (suc k) h =
+        let p : 96 ≤ countPlace g s k = rw (count-is g s (l .opened) k) (omega (arith, l .apart .past k (in-s k h))) in
+        rw (mend-kept k (omega arith), table-kept k, fix-same s t (countPlace g s k) (getD refs k 0) (be16-same _ _ _ _ (e .same (countPlace g s k) 2 p)))
+
+    -- the same list, whatever the field
+    pub mended : mendUnits g t refs (g .clusters) ≡ repairUnits s (figuresOf s) 0 (clusters s)
+    mended =
+        mend-kept (g .clusters) (omega arith)
+        ∙ ap (mendUnits g s refs) (l .opened .is-clusters)
+        ∙ mend-is g s (figuresOf s) refs (l .opened) (clusters s) (λ j h. sym (getD-take (clusters s) refs j 0 h) ∙ ap (λ (f : List ℕ). getD f j 0) (l .figures))

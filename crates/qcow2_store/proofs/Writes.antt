@@ -1,24 +1,32 @@
--- The returns of a write. Assumes nothing.
-use Prim.Native.Nat.{ℕ, _+_, _-_, _*_, _≤_, _<_}
+-- What a write is found to be. Assumes nothing.
+use Prim.Native.Nat.{ℕ, _+_, _-_, _*_, _^_, _≤_, _<_}
 use native.Mathlib.Omega.{arith}
-use mathlib.Core.Path.{_≡_, refl, _∙_}
+use mathlib.Core.Path.{_≡_, _∙_}
 use mathlib.Core.Bool.{true, false}
-use mathlib.Core.List.{List, [], _∷_, _++_}
+use mathlib.Core.List.{List, [], _∷_}
+use lib.ListN.{length, length-append}
 use borrow.Author.Tests.{eq-eqb, ne-eqb, le-leb, lt-leb}
 use Rattle.choice.proofs.Runs.{first-low, first-high}
-use Rattle.units.specs.Units.{entry, count, fill, cluster}
-use Rattle.units.specs.Plan.{units, Done}
-use Rattle.units.specs.declared.Outcome.{Outcome}
-use Rattle.units.specs.declared.Outcome.the-variants.{Refused}
-use Rattle.units.proofs.Steps.{refusal}
-use Rattle.qcow2_spec.specs.Header.{clusterSize, clusters}
+use Rattle.units.specs.Units.{entry, fill, cluster}
+use Rattle.units.proofs.Laws.{length-fill}
+use Rattle.qcow2_spec.specs.Header.{clusters}
 use Rattle.qcow2_spec.specs.Entries.{place, zeroMark, newEntry}
 use Rattle.qcow2_spec.specs.Counts.{countAt, setCount, freeAt, freeFrom}
 use Rattle.qcow2_spec.specs.Store.{allot, writeSlot, writeNew, writeTable, writeWay}
+use Rattle.qcow2_spec.specs.Opened.{Opened}
+use Rattle.qcow2_spec.specs.Ready.{Slotted}
+use Rattle.qcow2_spec.specs.declared.Geometry.{Geometry}
 use Rattle.qcow2_spec.specs.declared.Way.{Way}
 use Rattle.qcow2_spec.specs.declared.Way.the-variants.{Bad, NoTable, Slot}
-use Rattle.qcow2_store.specs.Links.{places, tableUnits}
+use Rattle.qcow2_store.specs.Links.{Linked, places, tableUnits}
+use Rattle.qcow2_store.specs.Jobs.{Decides, jobUnits}
 use Rattle.qcow2_store.specs.declared.linking.Places.{Places}
+use Rattle.qcow2_store.specs.declared.finding.Job.{Job}
+use Rattle.qcow2_store.specs.declared.finding.Job.the-variants.{Bytes, Marked, New, Table}
+use Rattle.qcow2_store.specs.declared.finding.Decision.{Decision}
+use Rattle.qcow2_store.specs.declared.finding.Decision.the-variants.{Refuse, Store}
+use Rattle.qcow2_store.proofs.Sizes.{inside-at}
+use Rattle.qcow2_store.proofs.Slots.{placed-at}
 
 -- where a free cluster is
 pub free-most : (s : List ℕ) → freeFrom s 0 ≤ clusters s
@@ -29,57 +37,62 @@ pub free-least : (s : List ℕ) (i : ℕ) → i ≤ freeFrom s i
 unfolding freeFrom
 free-least s i = first-low (freeAt s) i (clusters s - i)
 
-module _ (s : List ℕ) (o : ℕ) (d : List ℕ) (a : ℕ) where
+-- a job with data has a unit
+pub job-some : (j : Job) (c o : ℕ) (d : List ℕ) → 0 < length d → 0 < length (jobUnits j c o d)
+unfolding tableUnits
+job-some (Bytes p) c o d h = omega (arith, length-fill d (p + o))
+job-some (Marked a p) c o d h = omega (arith, length-append (fill p (cluster c o d)) (entry a (newEntry p) ∷ []))
+job-some (New n a p) c o d h = omega arith
+job-some (Table p) c o d h = omega arith
+
+module _ (g : Geometry) (s : List ℕ) (o : Opened g s) where
   -- a new cluster k, or none
   module _ (at k : ℕ) where
-    pub full : clusters s ≤ k → Done (writeNew s at k o d) a s (Refused 14) s
+    pub full : g .clusters ≤ k → Decides (length s) (2 ^ g .bits) (Refuse 14) (writeNew s at k)
     unfolding writeNew
-    full h = rw (le-leb (clusters s) k h) (refusal 14 a s (Refused 14) refl)
+    full h = record { same = λ i d. rw (le-leb (clusters s) k (rw (o .is-clusters) at h)); inside = tt }
 
-    pub newly : (r : Outcome) (t : List ℕ) (n c : ℕ) → k < clusters s → n ≡ countAt s k → c ≡ clusterSize s
-        → Done (units ((count n 1 ∷ fill (k * c) (cluster c o d)) ++ entry at (newEntry (k * c)) ∷ [])) a s r t → Done (writeNew s at k o d) a s r t
+    pub newly : (n c : ℕ) → k < g .clusters → at + 8 ≤ length s → n ≡ countAt s k → n + 2 ≤ length s → c ≡ 2 ^ g .bits → Decides (length s) (2 ^ g .bits) (Store (New n at (k * c))) (writeNew s at k)
     unfolding writeNew allot setCount
-    newly r t n c h e f done = rw (lt-leb (clusters s) k h, ← e, ← f) done
-
-  -- the entry e stands at a place
-  module _ (at e : ℕ) (r : Outcome) (t : List ℕ) where
-    pub slot-new : place e ≡ 0 → Done (writeNew s at (freeFrom s 0) o d) a s r t → Done (writeSlot s at e o d) a s r t
-    unfolding writeSlot
-    slot-new p h = rw (eq-eqb (place e) 0 p) h
-
-    module _ (p : ℕ) (f : p ≡ place e) (z : p ≡ 0 → ⊥) where
-      pub slot-marked : (c : ℕ) → c ≡ clusterSize s → zeroMark e ≡ true
-          → Done (units (fill p (cluster c o d) ++ entry at (newEntry p) ∷ [])) a s r t → Done (writeSlot s at e o d) a s r t
-      unfolding writeSlot
-      slot-marked c g m h = rw (ne-eqb (place e) 0 (λ q. z (f ∙ q)), m, ← f, ← g) h
-
-      pub slot-bytes : zeroMark e ≡ false → Done (units (fill (p + o) d)) a s r t → Done (writeSlot s at e o d) a s r t
-      unfolding writeSlot
-      slot-bytes m h = rw (ne-eqb (place e) 0 (λ q. z (f ∙ q)), m, ← f) h
+    newly n c h a e m f =
+        record { same = λ i d. rw (lt-leb (clusters s) k (rw (o .is-clusters) at h), e, f, o .is-cluster); inside = (m, (a, rw (← f) (inside-at g s o k c h f))) }
 
   -- a new L2 table t and a new cluster k, or none
-  module _ (g t k : ℕ) where
-    pub full-table : clusters s ≤ k → Done (writeTable s g t k o d) a s (Refused 14) s
+  module _ (x t k : ℕ) where
+    pub full-table : g .clusters ≤ k → Decides (length s) (2 ^ g .bits) (Refuse 14) (writeTable s x t k)
     unfolding writeTable
-    full-table h = rw (le-leb (clusters s) k h) (refusal 14 a s (Refused 14) refl)
+    full-table h = record { same = λ i d. rw (le-leb (clusters s) k (rw (o .is-clusters) at h)); inside = tt }
 
-    pub tabled : (r : Outcome) (u : List ℕ) (p : Places) (c : ℕ) → k < clusters s → p ≡ places s g t k → c ≡ clusterSize s
-        → Done (units (tableUnits p c o d)) a s r u → Done (writeTable s g t k o d) a s r u
+    pub tabled : (p : Places) → k < g .clusters → p ≡ places s x t k → Linked (length s) p (2 ^ g .bits) → Decides (length s) (2 ^ g .bits) (Store (Table p)) (writeTable s x t k)
     unfolding writeTable tableUnits allot setCount places
-    tabled r u p c h e f done =
-        let x : Done (units (tableUnits (places s g t k) (clusterSize s) o d)) a s r u = rw (e, f) at done in
-        rw (lt-leb (clusters s) k h) x
+    tabled p h e l = record { same = λ i d. rw (lt-leb (clusters s) k (rw (o .is-clusters) at h), e, o .is-cluster); inside = l }
 
-  -- by the way w to guest cluster x
-  module _ (w : Way) (x : ℕ) where
-    pub write-bad : (k : ℕ) → w ≡ Bad k → Done (writeWay s w x o d) a s (Refused k) s
-    unfolding writeWay
-    write-bad k q = rw q (refusal k a s (Refused k) refl)
+-- the entry e stands at a place
+module _ (g : Geometry) (s : List ℕ) (at e : ℕ) (o : Slotted g s at e) where
+  pub slot-new : (x : Decision) → place e ≡ 0 → Decides (length s) (2 ^ g .bits) x (writeNew s at (freeFrom s 0)) → Decides (length s) (2 ^ g .bits) x (writeSlot s at e)
+  unfolding writeSlot
+  slot-new x z h = record { same = λ i d. rw (eq-eqb (place e) 0 z) (h .same i d); inside = h .inside }
 
-    pub write-none : (r : Outcome) (t : List ℕ) → w ≡ NoTable → Done (writeTable s x (freeFrom s 0) (freeFrom s (freeFrom s 0 + 1)) o d) a s r t → Done (writeWay s w x o d) a s r t
-    unfolding writeWay
-    write-none r t q h = rw q h
+  module _ (p : ℕ) (f : p ≡ place e) (z : p ≡ 0 → ⊥) where
+    pub slot-marked : zeroMark e ≡ true → Decides (length s) (2 ^ g .bits) (Store (Marked at p)) (writeSlot s at e)
+    unfolding writeSlot
+    slot-marked m =
+        record { same = λ i d. rw (ne-eqb (place e) 0 (λ q. z (f ∙ q)), m, f, o .opened .is-cluster); inside = (o .inside, rw f (placed-at g s at e o .inside)) }
 
-    pub write-there : (r : Outcome) (t : List ℕ) (p e : ℕ) → w ≡ Slot p e → Done (writeSlot s p e o d) a s r t → Done (writeWay s w x o d) a s r t
-    unfolding writeWay
-    write-there r t p e q h = rw q h
+    pub slot-bytes : zeroMark e ≡ false → Decides (length s) (2 ^ g .bits) (Store (Bytes p)) (writeSlot s at e)
+    unfolding writeSlot
+    slot-bytes m = record { same = λ i d. rw (ne-eqb (place e) 0 (λ q. z (f ∙ q)), m, f); inside = rw f (placed-at g s at e o .inside) }
+
+-- by the way w to guest cluster x
+module _ (s : List ℕ) (n c : ℕ) (w : Way) (x : ℕ) where
+  pub write-bad : (k : ℕ) → w ≡ Bad k → Decides n c (Refuse k) (writeWay s w x)
+  unfolding writeWay
+  write-bad k q = record { same = λ i d. rw q; inside = tt }
+
+  pub write-none : (r : Decision) → w ≡ NoTable → Decides n c r (writeTable s x (freeFrom s 0) (freeFrom s (freeFrom s 0 + 1))) → Decides n c r (writeWay s w x)
+  unfolding writeWay
+  write-none r q h = record { same = λ i d. rw q (h .same i d); inside = h .inside }
+
+  pub write-there : (r : Decision) (p e : ℕ) → w ≡ Slot p e → Decides n c r (writeSlot s p e) → Decides n c r (writeWay s w x)
+  unfolding writeWay
+  write-there r p e q h = record { same = λ i d. rw q (h .same i d); inside = h .inside }

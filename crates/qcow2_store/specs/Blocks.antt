@@ -16,9 +16,13 @@ pub record Named (g : Geometry) (s : List ℕ) (b : ℕ) : Type 0 where
   pub short : length s ≤ 67108864
   pub inside : be64 s (g .table + 8 * b) + 2 ^ g .bits ≤ length s
 
+-- the place of the refcount table's entry for cluster k's block
+abbrev pub tablePlace : Geometry → ℕ → ℕ
+tablePlace g k = g .table + 8 * (k / 2 ^ (g .bits - 1))
+
 -- the place of cluster k's count, by the refcount table of s
 abbrev pub countPlace : Geometry → List ℕ → ℕ → ℕ
-countPlace g s k = be64 s (g .table + 8 * (k / 2 ^ (g .bits - 1))) + 2 * (k % 2 ^ (g .bits - 1))
+countPlace g s k = be64 s (tablePlace g k) + 2 * (k % 2 ^ (g .bits - 1))
 
 -- it can be found
 pub record Reach (g : Geometry) (s : List ℕ) (k : ℕ) : Type 0 where

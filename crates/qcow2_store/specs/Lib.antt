@@ -1,3 +1,5 @@
 pub mod Blocks
+pub mod Ends
 pub mod Links
+pub mod Jobs
 pub mod Leaks

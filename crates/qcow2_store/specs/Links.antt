@@ -21,12 +21,12 @@ abbrev pub endOf : Cell → ℕ
 endOf (Count at x) = at + 2
 endOf (Entry at x) = at + 8
 
--- a cluster of c bytes at p with the data d from o on, and its entry at a
-pub record Filled (s : List ℕ) (a p c o : ℕ) (d : List ℕ) : Type 0 where
-  pub entered : a + 8 ≤ length s
-  pub inside : p + c ≤ length s
+-- in an image of n bytes, a cluster of c bytes at p with the data d from o on, and its entry at a
+pub record Filled (n a p c o : ℕ) (d : List ℕ) : Type 0 where
+  pub entered : a + 8 ≤ n
+  pub inside : p + c ≤ n
   pub fits : o + length d ≤ c
-  pub short : length s ≤ 67108864
+  pub short : n ≤ 67108864
 
 -- the places of a write that takes cluster t as an L2 table and cluster k for the data
 unfoldable pub places : List ℕ → (g t k : ℕ) → Places
@@ -40,15 +40,15 @@ places s g t k =
       link = l1EntryAt s g;
     }
 
--- each of them lies in the image
-pub record Linked (s : List ℕ) (p : Places) (c : ℕ) : Type 0 where
-  pub tablecounted : p .tablecount + 2 ≤ length s
-  pub tabled : p .table + c ≤ length s
-  pub counted : p .datacount + 2 ≤ length s
-  pub inside : p .place + c ≤ length s
-  pub entered : p .slot + 8 ≤ length s
-  pub linked : p .link + 8 ≤ length s
-  pub short : length s ≤ 67108864
+-- each of them lies in an image of n bytes
+pub record Linked (n : ℕ) (p : Places) (c : ℕ) : Type 0 where
+  pub tablecounted : p .tablecount + 2 ≤ n
+  pub tabled : p .table + c ≤ n
+  pub counted : p .datacount + 2 ≤ n
+  pub inside : p .place + c ≤ n
+  pub entered : p .slot + 8 ≤ n
+  pub linked : p .link + 8 ≤ n
+  pub short : n ≤ 67108864
 
 unfoldable pub tableUnits : Places → (c o : ℕ) → List ℕ → List UnitStore
 tableUnits p c o d =

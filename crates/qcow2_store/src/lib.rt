@@ -1,5 +1,7 @@
 // Writes, discards and repairs, unit by unit within an allowance, on an image whose header is accepted.
+mod clearing;
 pub mod discarding;
+mod finding;
 pub mod free;
 mod groups;
 mod linking;

@@ -79,7 +79,7 @@ pub fn put_new(
     o: usize,
     allowance: usize,
 ) -> Outcome
-    requires { ⌜ («count_at» + 2 ≤ length (now image)) × Filled (now image) «entry_at» at c o (now src) ⌝ }
+    requires { ⌜ («count_at» + 2 ≤ length (now image)) × Filled (length (now image)) «entry_at» at c o (now src) ⌝ }
     ensures { λ r. ⌜ Done (planned ((count «count_at» 1 ∷ fill at (cluster c o (now (src .entry)))) ++ entry «entry_at» (newEntry at) ∷ [])) allowance (now (image .entry)) r (now (image .exit)) ⌝ }
 {
     let left = allot(image, count_at, at, c, src, o, allowance);
@@ -97,7 +97,7 @@ pub fn put_marked(
     o: usize,
     allowance: usize,
 ) -> Outcome
-    requires { ⌜ Filled (now image) «entry_at» at c o (now src) ⌝ }
+    requires { ⌜ Filled (length (now image)) «entry_at» at c o (now src) ⌝ }
     ensures { λ r. ⌜ Done (planned (fill at (cluster c o (now (src .entry))) ++ entry «entry_at» (newEntry at) ∷ [])) allowance (now (image .entry)) r (now (image .exit)) ⌝ }
 {
     let rest = units::store_cluster(image, at, c, src, o, allowance);
@@ -133,7 +133,7 @@ pub fn put_table(
     o: usize,
     allowance: usize,
 ) -> Outcome
-    requires { ⌜ Linked (now image) p c × (o + length (now src) ≤ c) ⌝ }
+    requires { ⌜ Linked (length (now image)) p c × (o + length (now src) ≤ c) ⌝ }
     ensures { λ r. ⌜ Done (planned (tableUnits p c o (now (src .entry)))) allowance (now (image .entry)) r (now (image .exit)) ⌝ }
 {
     let left = allot_zeros(image, p.tablecount, p.table, c, src, allowance);

@@ -1,16 +1,19 @@
 // A repair: each count that differs from the scratch's figure is set to it, rising by cluster. The counts of a leaking image lie apart from
-// each other and from the refcount table, so that what is read on the way is what stood there on entry.
+// each other, from the refcount table and from the header, so that what is read on the way is what stood there on entry.
 ghost use mathlib.Core.Path.{_≡_};
 ghost use Prim.Native.Nat.{_+_, _-_, _*_, _%_, _^_, _≤_};
+ghost use mathlib.Core.List.{_++_};
 ghost use lib.ListN.{length, take};
 ghost use Rattle.units.specs.Units.{applyAll};
 ghost use Rattle.units.specs.Plan.{units as planned, Done};
 ghost use Rattle.qcow2_spec.specs.Header.{clusters};
+ghost use Rattle.qcow2_spec.specs.Store.{clearUnits, clearing};
 ghost use Rattle.qcow2_spec.specs.References.{figuresOf};
 ghost use Rattle.qcow2_spec.specs.Check.{repairUnits, verdict, verdictPlan};
 ghost use Rattle.qcow2_spec.specs.Opened.{Opened};
 ghost use Rattle.qcow2_store.specs.Blocks.{Reach, countPlace};
-ghost use Rattle.qcow2_store.specs.Leaks.{Figured, Leaking, fix, fixes};
+ghost use Rattle.qcow2_store.specs.Leaks.{Figured, Laid, Leaking, fix, fixes, mendUnits};
+use crate::clearing;
 use crate::free;
 use crate::groups;
 use qcow2_spec::Geometry;
@@ -81,10 +84,10 @@ fn repair_block(
     repair_run(image, at, refs, n, allowance)
 }
 
-// A leaking image, with the figures in refs.
-pub fn repair(image: &mut [u8], g: Geometry, refs: &[u8], allowance: usize) -> Outcome
-    requires { ⌜ Leaking g (now image) (now refs) ⌝ }
-    ensures { λ r. ⌜ Done (planned (repairUnits (now (image .entry)) (figuresOf (now (image .entry))) 0 (clusters (now (image .entry))))) allowance (now (image .entry)) r (now (image .exit)) ⌝ }
+// The counts of all clusters are to be refs.
+fn repair(image: &mut [u8], g: Geometry, refs: &[u8], allowance: usize) -> Outcome
+    requires { ⌜ Laid g (now image) × (g .clusters ≤ length (now refs)) ⌝ }
+    ensures { λ r. ⌜ Done (planned (mendUnits g (now (image .entry)) (now (refs .entry)) (g .clusters))) allowance (now (image .entry)) r (now (image .exit)) ⌝ }
 {
     let mut i = 0;
     let mut n = 0;
@@ -96,6 +99,16 @@ pub fn repair(image: &mut [u8], g: Geometry, refs: &[u8], allowance: usize) -> O
     units::end_of(n, allowance)
 }
 
+// A leaking image, with the figures in refs: the clearing unit, then the counts. These lie apart from the header, so that the field makes no difference.
+fn store(image: &mut [u8], g: Geometry, refs: &[u8], allowance: usize) -> Outcome
+    requires { ⌜ Leaking g (now image) (now refs) ⌝ }
+    ensures { λ r. ⌜ Done (planned (clearUnits (now (image .entry)) ++ repairUnits (now (image .entry)) (figuresOf (now (image .entry))) 0 (clusters (now (image .entry))))) allowance (now (image .entry)) r (now (image .exit)) ⌝ }
+{
+    let left = clearing::clear(image, g, allowance);
+    let r = repair(image, g, refs, left);
+    clearing::whole_end(r, left, allowance)
+}
+
 // A repair by the verdict, with the figures that the check left in refs: a damaged image is refused.
 pub fn verdict_repair(
     image: &mut [u8],
@@ -105,11 +118,11 @@ pub fn verdict_repair(
     allowance: usize,
 ) -> Outcome
     requires { ⌜ (Opened g (now image) × Figured (now image) (now refs)) × (v ≡ verdict (now image)) ⌝ }
-    ensures { λ r. ⌜ Done (verdictPlan (now (image .entry)) v) allowance (now (image .entry)) r (now (image .exit)) ⌝ }
+    ensures { λ r. ⌜ Done (clearing (now (image .entry)) (verdictPlan (now (image .entry)) v)) allowance (now (image .entry)) r (now (image .exit)) ⌝ }
 {
     match v {
         Verdict::Sound => units::end_of(0, allowance),
-        Verdict::Leaks(_) => repair(image, g, refs, allowance),
+        Verdict::Leaks(_) => store(image, g, refs, allowance),
         Verdict::BadL1(_) => Outcome::Refused(17),
         Verdict::BadL2(_, _) => Outcome::Refused(17),
         Verdict::Shared(_) => Outcome::Refused(17),

@@ -5,51 +5,34 @@ use std::path::PathBuf;
 
 use qcow2_core::Outcome;
 
-use super::check::{check, Checked};
-use crate::args::Change;
+use super::check::check;
+use crate::autoclear;
 use crate::call::Call;
-use crate::fields::Fields;
 use crate::findings;
 use crate::image_file::ImageFile;
 use crate::ordered::{Fault, Ordered};
 use crate::progress::Progress;
-use crate::report::Failure;
+use crate::report::{Failure, Report};
 
-/// An accepted image that may be changed.
-pub fn open(image: ImageFile, change: Change) -> Result<(PathBuf, Ordered<File>), Failure> {
-    let checked = check(&image)?;
-    prepare(image, checked, change)
-}
-
-/// The same for writes and discards: only sound and leaking images, since the
-/// promise about power cuts is for them.
-pub fn open_usable(image: ImageFile, change: Change) -> Result<(PathBuf, Ordered<File>), Failure> {
+/// For writes and discards: only sound and leaking images, since the promise
+/// about power cuts is for them.
+pub fn open_usable(image: ImageFile) -> Result<(PathBuf, Ordered<File>), Failure> {
     let checked = check(&image)?;
     if !checked.verdict.is_usable() {
         let (what, json) = findings::verdict(&checked.layout, &image.bytes, checked.verdict);
         let advice = findings::advice(&checked.layout, &image.bytes, checked.verdict);
         return Err(Failure::Damaged { what, json, advice: advice.into() });
     }
-    prepare(image, checked, change)
+    Ok((image.path, Ordered::new(image.file, checked.layout, image.bytes)))
 }
 
-/// Refuses what a change would make wrong without being seen.
-fn prepare(
-    image: ImageFile,
-    checked: Checked,
-    change: Change,
-) -> Result<(PathBuf, Ordered<File>), Failure> {
-    let autoclear = Fields::read(&image.bytes).map_or(0, |fields| fields.autoclear);
-    if autoclear != 0 && !change.force {
-        return Err(Failure::Other(format!(
-            "not changed: autoclear_features is 0x{autoclear:x}{}. The core neither knows these \
-             features nor clears the bits, and what they stand for would be wrong or lost \
-             afterwards.\n  Remove them with qemu first (`qemu-img bitmap --remove IMAGE NAME`), or \
-             give --force.",
-            if autoclear & 1 == 1 { " (bit 0: persistent bitmaps)" } else { "" }
-        )));
+/// The report, with a word on the autoclear bits if the change cleared them.
+pub fn noting(mut report: Report, bits: u64, after: &[u8]) -> Report {
+    if autoclear::bits(after) != bits {
+        report.text += &format!("  {}\n", autoclear::cleared(bits));
+        report.json.push(("autoclear_cleared", bits.into()));
     }
-    Ok((image.path, Ordered::new(image.file, checked.layout, image.bytes)))
+    report
 }
 
 /// Tries the calls in memory: the units of all, or the first refusal with the

@@ -2,7 +2,7 @@
 
 use qcow2_core::Verdict;
 
-use crate::fields::Fields;
+use crate::autoclear;
 use crate::findings;
 use crate::image_file::ImageFile;
 use crate::json::Json;
@@ -57,12 +57,9 @@ pub fn run(image: &ImageFile) -> Result<Report, Failure> {
 }
 
 /// What to do about leaks.
-fn advice(image: &ImageFile) -> &'static str {
-    match Fields::read(&image.bytes) {
-        Some(fields) if fields.autoclear & 1 == 1 => {
-            "The image has persistent bitmaps (autoclear_features bit 0), and their clusters look \
-             leaked here. Do not repair it while they are wanted."
-        }
-        _ => "Guest bytes are not affected; 'qstore repair' gives the clusters back.",
+fn advice(image: &ImageFile) -> String {
+    match autoclear::bits(&image.bytes) {
+        0 => "Guest bytes are not affected; 'qstore repair' gives the clusters back.".into(),
+        bits => autoclear::advice(bits),
     }
 }

@@ -3,7 +3,7 @@
 use std::ops::Range;
 
 use super::change;
-use crate::args::Change;
+use crate::autoclear;
 use crate::call::Call;
 use crate::fields::be64;
 use crate::image_file::{refused, ImageFile};
@@ -11,9 +11,9 @@ use crate::layout::Layout;
 use crate::report::{Failure, Report, DONE, FAILED};
 use crate::sentences::Request;
 
-pub fn run(image: ImageFile, offset: u64, length: u64, change: Change) -> Result<Report, Failure> {
-    let (path, mut ordered) = change::open_usable(image, change)?;
-    let layout = ordered.layout;
+pub fn run(image: ImageFile, offset: u64, length: u64, allowance: u64) -> Result<Report, Failure> {
+    let (path, mut ordered) = change::open_usable(image)?;
+    let (layout, bits) = (ordered.layout, autoclear::bits(ordered.image()));
     let inside = offset.checked_add(length).is_some_and(|end| end <= layout.size);
     if !inside {
         return Err(refused(&path, ordered.image(), 11, Request::Read { offset, length }));
@@ -28,7 +28,7 @@ pub fn run(image: ImageFile, offset: u64, length: u64, change: Change) -> Result
         };
         refused(&path, ordered.image(), number, Request::Discard { cluster })
     })?;
-    let (units, finished) = change::run(&mut ordered, "discard", total, change.allowance, calls)?;
+    let (units, finished) = change::run(&mut ordered, "discard", total, allowance, calls)?;
     let text = if finished {
         format!("discarded {length} bytes at {offset}: {units} units\n")
     } else {
@@ -40,7 +40,8 @@ pub fn run(image: ImageFile, offset: u64, length: u64, change: Change) -> Result
         ("units", units.into()),
         ("finished", finished.into()),
     ];
-    Ok(Report { text, json, exit: if finished { DONE } else { FAILED } })
+    let report = Report { text, json, exit: if finished { DONE } else { FAILED } };
+    Ok(change::noting(report, bits, ordered.image()))
 }
 
 /// The guest clusters of a range inside the disk, or why they are not whole.

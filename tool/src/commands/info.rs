@@ -3,7 +3,7 @@
 use qcow2_core::Verdict;
 
 use super::check::check;
-use crate::fields::Fields;
+use crate::autoclear;
 use crate::findings;
 use crate::image_file::ImageFile;
 use crate::json::Json;
@@ -20,7 +20,7 @@ pub fn run(image: &ImageFile) -> Result<Report, Failure> {
         Verdict::Leaks(number) => Some(number),
         _ => None,
     };
-    let autoclear = Fields::read(&image.bytes).map_or(0, |fields| fields.autoclear);
+    let bits = autoclear::bits(&image.bytes);
     let leaked_text = leaked.map_or("not known".into(), |number| number.to_string());
     let mut text = format!(
         "version: {}\nfile size: {} ({} clusters of {} bytes)\ndisk size: {}\nL1 entries: {}\n\
@@ -32,8 +32,8 @@ pub fn run(image: &ImageFile) -> Result<Report, Failure> {
         layout.size,
         layout.l1_size,
     );
-    if autoclear != 0 {
-        text += &format!("autoclear_features: 0x{autoclear:x}{}\n", bitmaps(autoclear));
+    if bits != 0 {
+        text += &format!("autoclear_features: {}\n", autoclear::named(bits));
     }
     text += &format!("verdict: {verdict}\n");
     let json = vec![
@@ -46,15 +46,8 @@ pub fn run(image: &ImageFile) -> Result<Report, Failure> {
         ("clusters_in_use", used.into()),
         ("clusters_free", free.into()),
         ("clusters_leaked", leaked.map_or(Json::Null, Json::Number)),
-        ("autoclear_features", autoclear.into()),
+        ("autoclear_features", bits.into()),
         ("check", Json::Object(members)),
     ];
     Ok(Report { text, json, exit: DONE })
-}
-
-fn bitmaps(autoclear: u64) -> &'static str {
-    match autoclear & 1 {
-        1 => " (persistent bitmaps; their clusters look leaked here)",
-        _ => "",
-    }
 }

@@ -18,7 +18,7 @@ use crate::report::{Failure, Report};
 pub fn run(options: &Options) -> Result<Report, Failure> {
     let changes = matches!(
         options.command,
-        Command::Repair(_) | Command::Write { .. } | Command::Discard { .. }
+        Command::Repair { .. } | Command::Write { .. } | Command::Discard { .. }
     );
     let image = ImageFile::open(&options.image, changes)?;
     match options.command {
@@ -28,8 +28,12 @@ pub fn run(options: &Options) -> Result<Report, Failure> {
         Command::Read { offset, length } => {
             read::run(&image, offset, length, options.json, &mut stdout().lock())
         }
-        Command::Repair(change) => repair::run(image, change),
-        Command::Write { offset, change } => write::run(image, offset, &mut stdin().lock(), change),
-        Command::Discard { offset, length, change } => discard::run(image, offset, length, change),
+        Command::Repair { allowance, force } => repair::run(image, allowance, force),
+        Command::Write { offset, allowance } => {
+            write::run(image, offset, &mut stdin().lock(), allowance)
+        }
+        Command::Discard { offset, length, allowance } => {
+            discard::run(image, offset, length, allowance)
+        }
     }
 }

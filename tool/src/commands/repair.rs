@@ -1,19 +1,28 @@
 //! Leaked clusters given back.
 
-use qcow2_core::Outcome;
+use qcow2_core::{Outcome, Verdict};
 
 use super::change;
-use crate::args::Change;
+use super::check::check;
+use crate::autoclear;
 use crate::image_file::{refused, ImageFile};
+use crate::ordered::Ordered;
 use crate::progress::Progress;
 use crate::report::{Failure, Report, DONE, FAILED};
 use crate::sentences::Request;
 
-pub fn run(image: ImageFile, change: Change) -> Result<Report, Failure> {
+pub fn run(image: ImageFile, allowance: u64, force: bool) -> Result<Report, Failure> {
+    let checked = check(&image)?;
+    let bits = autoclear::bits(&image.bytes);
+    // What looks leaked may be in use by a feature that the core does not know.
+    if matches!(checked.verdict, Verdict::Leaks(_)) && bits != 0 && !force {
+        return Err(Failure::Other(autoclear::guard(bits)));
+    }
     // Damage is left to the core, which has a number for it.
-    let (path, mut ordered) = change::open(image, change)?;
+    let path = image.path;
+    let mut ordered = Ordered::new(image.file, checked.layout, image.bytes);
     let mut progress = Progress::new("repair", 0);
-    let outcome = ordered.repair(change.allowance, |done, total| progress.of(done, total));
+    let outcome = ordered.repair(allowance, |done, total| progress.of(done, total));
     drop(progress);
     let (units, finished) = match outcome {
         Ok(Outcome::Finished(units)) => (units, true),
@@ -26,9 +35,13 @@ pub fn run(image: ImageFile, change: Change) -> Result<Report, Failure> {
     change::in_step(&ordered, units)?;
     let text = match (finished, units) {
         (true, 0) => "sound, nothing to repair\n".into(),
-        (true, _) => format!("repaired: {units} counts set, the image is sound\n"),
+        (true, _) => {
+            let counts = units - u64::from(bits != 0);
+            format!("repaired: {counts} counts set, the image is sound\n")
+        }
         (false, _) => format!("stopped after {units} units\n"),
     };
     let json = vec![("units", units.into()), ("finished", finished.into())];
-    Ok(Report { text, json, exit: if finished { DONE } else { FAILED } })
+    let report = Report { text, json, exit: if finished { DONE } else { FAILED } };
+    Ok(change::noting(report, bits, ordered.image()))
 }

@@ -3,7 +3,7 @@
 use std::io::Read;
 
 use super::change;
-use crate::args::Change;
+use crate::autoclear;
 use crate::call::{writes, Call};
 use crate::image_file::{refused, ImageFile};
 use crate::report::{Failure, Report, DONE, FAILED};
@@ -13,10 +13,10 @@ pub fn run(
     image: ImageFile,
     offset: u64,
     input: &mut dyn Read,
-    change: Change,
+    allowance: u64,
 ) -> Result<Report, Failure> {
-    let (path, mut ordered) = change::open_usable(image, change)?;
-    let layout = ordered.layout;
+    let (path, mut ordered) = change::open_usable(image)?;
+    let (layout, bits) = (ordered.layout, autoclear::bits(ordered.image()));
     let refuse = |image: &[u8], number, length: usize, done| {
         let request = Request::Write { offset, length: length as u64, done };
         refused(&path, image, number, request)
@@ -37,7 +37,7 @@ pub fn run(
         let accepted = calls.clone().take(index).map(|call| length(&call)).sum();
         refuse(ordered.image(), number, data.len(), accepted)
     })?;
-    let (units, finished) = change::run(&mut ordered, "write", total, change.allowance, calls)?;
+    let (units, finished) = change::run(&mut ordered, "write", total, allowance, calls)?;
     let text = if finished {
         format!("wrote {} bytes at {offset}: {units} units\n", data.len())
     } else {
@@ -49,7 +49,8 @@ pub fn run(
         ("units", units.into()),
         ("finished", finished.into()),
     ];
-    Ok(Report { text, json, exit: if finished { DONE } else { FAILED } })
+    let report = Report { text, json, exit: if finished { DONE } else { FAILED } };
+    Ok(change::noting(report, bits, ordered.image()))
 }
 
 fn length(call: &Call) -> u64 {

@@ -67,7 +67,7 @@ write-way-requires c κs =
     let y = c .before .before .before .quotient .result in
     let h : y / perTable s < l1Size s = rw (c .before .before .before .quotient .ensures .0, b .pre .is-cluster) (reached (a .g) s (b .pre) (a .x) l) in
     let fits : c .before .before .before .before .before .before .before .rest .result + length (now (a .src)) ≤ 2 ^ a .g .bits = omega (arith, c .before .before .before .before .before .before .power .ensures .0, c .before .before .before .before .before .before .before .rest .ensures .1 .0, c .before .before .before .before .before .if3 .left) in
-    ((b .pre, subst (λ (w : Way). Ready (a .g) s w y) (sym (c .before .way-to .ensures)) (way-ready (a .g) s (b .pre) y h)), fits)
+    ((b .pre, subst (λ (w : Way). Ready (a .g) s w y) (sym (c .before .way-to .ensures)) (way-ready (a .g) s (b .pre) y h)), (fits, omega (arith, c .before .before .before .before .if4 .left)))
 
 returns-5 : tie.Need-returns-5
 returns-5 c =

@@ -1,15 +1,37 @@
 use borrow.Author.Needs.{needs}
-use mathlib.Core.Path.{refl}
-use mathlib.Core.List.{[], _∷_}
-use Rattle.units.specs.Units.{count, entry}
-use Rattle.units.proofs.Steps.{stored}
+use denote.Ref.{now}
+use mathlib.Core.Path.{subst}
+use lib.ListN.{length}
+use Rattle.qcow2_store.specs.Jobs.{FreedIn}
+use Rattle.qcow2_store.specs.declared.discarding.Freed.{Freed}
 use Rattle.qcow2_store.proofs.discarding.put_freed.Statement.{statement}
 use Rattle.qcow2_store.proofs.discarding.put_freed.Tie as tie
 
+put-cleared-requires : tie.Need-put-cleared-requires
+put-cleared-requires c κs =
+    let s = c .before .before .before .before .before in
+    subst (λ (f : Freed). FreedIn (length (now (s .args .image))) f) (c .before .before .freed .given .1) (s .pre)
+
+put-counted-requires : tie.Need-put-counted-requires
+put-counted-requires c κs =
+    let s = c .before .before .before .before .before in
+    subst (λ (f : Freed). FreedIn (length (now (s .args .image))) f) (c .before .before .freed2 .given .1) (s .pre)
+
 returns : tie.Need-returns
-returns c =
-    let a = c .before .before .before .before .before .before .args in
-    stored (entry (a .at) 0 ∷ count (a .count-at) (a .n) ∷ []) _ _ _ _ 2 refl (c .end-of .ensures) (c .before .before .before .put-two .ensures)
+returns c = rw (c .before .before .before .before .before .freed .given .1) (c .before .before .put-cleared .ensures)
+
+returns-2 : tie.Need-returns-2
+returns-2 c = rw (c .before .before .before .before .before .freed2 .given .1) (c .before .before .put-counted .ensures)
 
 pub put-freed-spec : {M : Type 1} → statement M
-put-freed-spec = tie.close (tie.spec (search needs) (search needs) (search needs) returns)
+put-freed-spec =
+    tie.close
+    (tie.spec
+    (search needs)
+    put-cleared-requires
+    (search needs)
+    put-counted-requires
+    (search needs)
+    returns
+    (search needs)
+    returns-2)

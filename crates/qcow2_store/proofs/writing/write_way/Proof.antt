@@ -1,51 +1,50 @@
 use borrow.Author.Needs.{needs}
 use denote.Ref.{now}
-use Rattle.qcow2_store.proofs.Slots.{ready-slot, ready-none}
-use Rattle.qcow2_store.proofs.Writes.{write-bad, write-none, write-there}
+use Prim.Native.Nat.{_^_}
+use mathlib.Core.Path.{sym, subst}
+use lib.ListN.{length}
+use Rattle.qcow2_store.specs.Jobs.{jobUnits, DecisionIn}
+use Rattle.qcow2_store.specs.declared.finding.Decision.{Decision}
+use Rattle.qcow2_spec.specs.Store.{writeWay}
+use Rattle.qcow2_store.proofs.Clears.{clear-refused, clear-stored}
+use Rattle.qcow2_store.proofs.Writes.{job-some}
 use Rattle.qcow2_store.proofs.writing.write_way.Statement.{statement}
 use Rattle.qcow2_store.proofs.writing.write_way.Tie as tie
 
-write-table-requires : tie.Need-write-table-requires
-write-table-requires c κs =
-    let s = c .before .before .before .before .before in
-    let a = s .args in
-    ((s .pre .0 .0, ready-none (a .g) (now (a .image)) (a .way) (a .guest) (s .pre .0 .1) (c .before .enum-told .given .1)), s .pre .1)
+find-way-requires : tie.Need-find-way-requires
+find-way-requires c κs = c .before .before .before .pre .0
 
-write-slot-requires : tie.Need-write-slot-requires
-write-slot-requires c κs =
-    let s = c .before .before .before .before .before .before in
+store-requires : tie.Need-store-requires
+store-requires c κs =
+    let s = c .before .before .before .before .before .before .before .before in
     let a = s .args in
-    let p = c .before .before .way2 .given in
-    (ready-slot (a .g) (now (a .image)) (a .way) (a .guest) (s .pre .0 .1) (p .0 .0) (p .0 .1 .0) (p .1), s .pre .1)
+    ((s .pre .0 .0, subst (λ (x : Decision). DecisionIn (length (now (a .image))) (2 ^ a .g .bits) x) (c .before .before .found2 .given .1) (c .before .before .before .before .find-way .ensures .inside)), s .pre .1)
 
 returns : tie.Need-returns
 returns c =
-    let a = c .before .before .before .before .before .args in
-    let p = c .before .way .given in
-    write-bad (now (a .image)) (a .o) (now (a .src)) (a .allowance) (a .way) (a .guest) (p .0 .0) (p .1)
+    let a = c .before .before .before .before .before .before .before .args in
+    let l = now (a .image) in
+    let p = c .before .found .given in
+    clear-refused l (a .allowance) (writeWay l (a .way) (a .guest) (a .o) (now (a .src))) (p .0 .0) (rw (p .1) at (sym (c .before .before .before .find-way .ensures .same (a .o) (now (a .src)))))
 
 returns-2 : tie.Need-returns-2
 returns-2 c =
-    let a = c .before .before .before .before .before .before .before .before .args in
-    write-none (now (a .image)) (a .o) (now (a .src)) (a .allowance) (a .way) (a .guest) _ _ (c .before .before .before .before .enum-told .given .1) (c .before .before .write-table .ensures)
-
-returns-3 : tie.Need-returns-3
-returns-3 c =
-    let a = c .before .before .before .before .before .before .before .before .before .args in
-    let p = c .before .before .before .before .before .way2 .given in
-    write-there (now (a .image)) (a .o) (now (a .src)) (a .allowance) (a .way) (a .guest) _ _ (p .0 .0) (p .0 .1 .0) (p .1) (c .before .before .write-slot .ensures)
+    let s = c .before .before .before .before .before .before .before .before .before .before .before in
+    let a = s .args in
+    let l = now (a .image) in
+    let p = c .before .before .before .before .before .found2 .given in
+    let U = jobUnits (p .0 .0) (2 ^ a .g .bits) (a .o) (now (a .src)) in
+    clear-stored l (a .allowance) (writeWay l (a .way) (a .guest) (a .o) (now (a .src))) U _ _ (rw (p .1) at (sym (c .before .before .before .before .before .before .before .find-way .ensures .same (a .o) (now (a .src))))) (job-some (p .0 .0) _ (a .o) (now (a .src)) (s .pre .1 .1)) (c .before .before .store .ensures)
 
 pub write-way-spec : {M : Type 1} → statement M
 write-way-spec =
     tie.close
     (tie.spec
+    find-way-requires
     (search needs)
     (search needs)
-    write-table-requires
+    store-requires
     (search needs)
-    write-slot-requires
     returns
     (search needs)
-    returns-2
-    (search needs)
-    returns-3)
+    returns-2)

@@ -2,13 +2,14 @@ use borrow.Author.Needs.{needs}
 use native.Mathlib.Omega.{arith}
 use Prim.Native.Nat.{_^_}
 use mathlib.Core.Path.{sym, subst}
+use lib.ListN.{length}
 use denote.Ref.{now}
 use Rattle.qcow2_store.specs.Links.{Linked}
 use Rattle.qcow2_store.specs.declared.linking.Places.{Places}
 use Rattle.qcow2_store.proofs.Sizes.{inside-at}
 use Rattle.qcow2_store.proofs.Links.{link-is, places-are, places-in}
-use Rattle.qcow2_store.proofs.writing.find_places.Statement.{statement}
-use Rattle.qcow2_store.proofs.writing.find_places.Tie as tie
+use Rattle.qcow2_store.proofs.finding.find_places.Statement.{statement}
+use Rattle.qcow2_store.proofs.finding.find_places.Tie as tie
 
 mul-table : tie.Need-mul-table
 mul-table c =
@@ -59,7 +60,7 @@ returns c =
     let o = s .pre .0 .0 in
     let m = link-is (a .g) l o (a .guest) (c .before .quotient .result) (c .before .quotient .ensures .0) in
     let e = places-are (a .g) l o (a .guest) (a .t) (a .k) _ _ (c .before .before .before .before .before .before .before .bytes-of .result) _ _ (c .before .before .before .before .before .before .before .bytes-of .ensures .0) (c .before .before .before .before .before .before .count-at .ensures .0) (c .before .before .before .before .before .count-at2 .ensures .0) (c .before .before .before .rest .ensures .0) m in
-    (e, subst (λ (q : Places). Linked l q (2 ^ a .g .bits)) (sym e) (places-in (a .g) l o (a .guest) (a .t) (a .k) (s .pre .0 .1) (s .pre .1 .0) (s .pre .1 .1)))
+    (e, subst (λ (q : Places). Linked (length l) q (2 ^ a .g .bits)) (sym e) (places-in (a .g) l o (a .guest) (a .t) (a .k) (s .pre .0 .1) (s .pre .1 .0) (s .pre .1 .1)))
 
 pub find-places-spec : {M : Type 1} → statement M
 find-places-spec =
