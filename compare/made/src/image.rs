@@ -78,7 +78,7 @@ impl Made {
         u64::from(self.version == 3 && self.get64(AUTOCLEAR) != 0)
     }
 
-    fn count_at(&self, cluster: usize) -> usize {
+    pub fn count_at(&self, cluster: usize) -> usize {
         let per_block = self.cluster() / 2;
         self.blocks[cluster / per_block] + 2 * (cluster % per_block)
     }

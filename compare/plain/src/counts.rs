@@ -19,37 +19,40 @@ impl Header {
         self.block_at(image, index) + 2 * (cluster & (self.per_block() - 1))
     }
 
-    /// Number of counts in block `index` that stand for a cluster.
-    pub fn counts_in(&self, index: usize) -> usize {
-        self.per_block().min(self.clusters - index * self.per_block())
-    }
-
-    /// The lowest cluster from `start` on with stored count 0.
+    /// The lowest cluster from `start` on with stored count 0. Each block is
+    /// looked up once.
     pub fn next_free(&self, image: &[u8], start: usize) -> Option<usize> {
-        let per_block = self.per_block();
-        let mut skip = start & (per_block - 1);
-        for index in start >> (self.cluster_bits - 1)..self.blocks {
-            let at = self.block_at(image, index);
-            let counts = &image[at..][..2 * self.counts_in(index)];
+        let (bits, per_block) = (self.cluster_bits, self.per_block());
+        let table = image[self.table_at..][..8 * self.blocks].as_chunks().0;
+        let first = start >> (bits - 1);
+        let mut base = first * per_block;
+        let mut skip = start - base;
+        for &entry in table.get(first..)? {
+            let block = &image[u64::from_be_bytes(entry) as usize..];
+            let counts = &block[..2 * per_block.min(self.clusters - base)];
             if let Some(found) = first_zero(counts.get(2 * skip..).unwrap_or(&[])) {
-                return Some(index * per_block + skip + found);
+                return Some(base + skip + found);
             }
-            skip = 0;
+            (base, skip) = (base + per_block, 0);
         }
         None
     }
 }
 
+/// Counts that are tested at once: the compiler compares eight by eight, and
+/// needs no loop for so few.
+const GROUP: usize = 256;
+
 /// Index of the first count that is 0.
 fn first_zero(counts: &[u8]) -> Option<usize> {
     let zero = |count: &[u8; 2]| *count == [0, 0];
-    let (groups, rest) = counts.as_chunks::<256>();
+    let (groups, rest) = counts.as_chunks::<{ 2 * GROUP }>();
     for (index, group) in groups.iter().enumerate() {
-        let pairs = group.as_chunks().0;
-        if pairs.iter().fold(false, |any, count| any | zero(count)) {
-            return pairs.iter().position(zero).map(|found| 128 * index + found);
+        let counts = group.as_chunks().0;
+        if counts.iter().fold(false, |any, count| any | zero(count)) {
+            return counts.iter().position(zero).map(|found| GROUP * index + found);
         }
     }
     let found = rest.as_chunks().0.iter().position(zero)?;
-    Some(128 * groups.len() + found)
+    Some(GROUP * groups.len() + found)
 }

@@ -1,9 +1,8 @@
 -- Refcount blocks: how one is found, and the counts in it.
 -- Assumes nothing.
-use Prim.Native.Nat.{ℕ, zero, suc, _+_, _-_, _*_, _/_, _%_, _^_, _≤_}
+use Prim.Native.Nat.{ℕ, _+_, _-_, _*_, _/_, _%_, _^_, _≤_}
 use mathlib.Core.Bool.{Bool}
 use mathlib.Core.List.{List}
-use lib.Bits.{bitAnd}
 use lib.Dec.{eqb}
 use lib.ListN.{length, getD}
 use Rattle.endian.specs.Big.{be16, be64}
@@ -33,11 +32,6 @@ pub record Reach (g : Geometry) (s : List ℕ) (k : ℕ) : Type 0 where
 -- two bytes as a number, the low one first: a count with its bytes swapped
 unfoldable pub le16 : List ℕ → ℕ → ℕ
 le16 l at = getD l at 0 + getD l (at + 1) 0 * 256
-
--- the bits that n counts of a block from index j on have in common, their bytes swapped
-unfoldable pub sharedBits : List ℕ → (j n : ℕ) → ℕ
-sharedBits block j zero = 65535
-sharedBits block j (suc n) = bitAnd (sharedBits block j n) (le16 block (2 * (j + n)))
 
 -- count k of a block is 0
 unfoldable pub zeroCount : List ℕ → ℕ → Bool

@@ -74,17 +74,32 @@ fn lowest_zero(block: &[u8], j: usize, end: usize) -> usize
     k
 }
 
-// The same: 128 counts are passed over at a time where none is 0.
+// The same: 32 counts are passed over at a time where none is 0.
+fn lowest_near(block: &[u8], j: usize, end: usize) -> usize
+    requires { ⌜ (j ≤ end) × (2 * end ≤ length (now block)) ⌝ }
+    ensures { λ r. ⌜ r ≡ first (zeroCount (now (block .entry))) j (end - j) ⌝ }
+{
+    let mut k = j;
+    while 32 <= end - k {
+        if groups::some_zero(block, k, 32) {
+            return lowest_zero(block, k, end);
+        }
+        k += 32;
+    }
+    lowest_zero(block, k, end)
+}
+
+// The same, 256 at a time: all counts of a block where a cluster has 512 bytes.
 fn lowest_free(block: &[u8], j: usize, end: usize) -> usize
     requires { ⌜ (j ≤ end) × (2 * end ≤ length (now block)) ⌝ }
     ensures { λ r. ⌜ r ≡ first (zeroCount (now (block .entry))) j (end - j) ⌝ }
 {
     let mut k = j;
-    while 128 <= end - k {
-        if groups::some_zero(block, k, 128) {
-            return lowest_zero(block, k, end);
+    while 256 <= end - k {
+        if groups::some_zero(block, k, 256) {
+            return lowest_near(block, k, end);
         }
-        k += 128;
+        k += 256;
     }
     lowest_zero(block, k, end)
 }

@@ -1,11 +1,12 @@
 // Counts of a refcount block tested and stored many at once: loops without an early exit, which the compiler makes vector code of.
 ghost use mathlib.Core.Path.{_≡_};
-ghost use Prim.Native.Nat.{_+_, _*_, _≤_, min};
+ghost use mathlib.Core.Bool.{_||_};
+ghost use Prim.Native.Nat.{_+_, _*_, _≤_};
 ghost use lib.Dec.{eqb, ltb};
 ghost use lib.ListN.{length};
 ghost use Rattle.choice.specs.Pick.{if_then_else_, first};
 ghost use Rattle.units.specs.Units.{applyAll};
-ghost use Rattle.qcow2_store.specs.Blocks.{le16, sharedBits, zeroCount};
+ghost use Rattle.qcow2_store.specs.Blocks.{le16, zeroCount};
 ghost use Rattle.qcow2_store.specs.Leaks.{fix, fixes};
 
 // A byte as a wider number.
@@ -13,13 +14,6 @@ pub fn wide(x: u8) -> u16
     ensures { λ r. ⌜ (r ≡ x) × (r ≤ 255) ⌝ }
 {
     x as u16
-}
-
-// The lesser of two numbers.
-fn lesser(a: u16, b: u16) -> u16
-    ensures { λ r. ⌜ r ≡ min a b ⌝ }
-{
-    if a < b { a } else { b }
 }
 
 // Two bytes as a number, the low one first.
@@ -38,43 +32,28 @@ pub fn swapped(s: &[u8], at: usize) -> u16
     pair(&s[at..at + 2])
 }
 
-// The bits that n counts of a block from index j on have in common, their bytes swapped.
-fn shared_bits(block: &[u8], j: usize, n: usize) -> u16
-    requires { ⌜ 2 * (j + n) ≤ length (now block) ⌝ }
-    ensures { λ r. ⌜ r ≡ sharedBits (now (block .entry)) j n ⌝ }
+// Whether x is 0 or a zero was found before. x is tested first: with the order turned the compiler makes no vector code of a loop over it.
+fn zero_or(x: u16, found: bool) -> bool
+    ensures { λ r. ⌜ r ≡ (eqb x 0 || found) ⌝ }
 {
-    let mut bits = 65535;
-    let mut i = 0;
-    while i < n {
-        bits = bits & swapped(block, 2 * (j + i));
-        i += 1;
+    if x == 0 {
+        return true;
     }
-    bits
+    found
 }
 
-// Whether the least of n counts of a block from index j on is 0.
-fn least_zero(block: &[u8], j: usize, n: usize) -> bool
-    requires { ⌜ 2 * (j + n) ≤ length (now block) ⌝ }
-    ensures { λ r. ⌜ r ≡ ltb (first (zeroCount (now (block .entry))) j n) (j + n) ⌝ }
-{
-    let mut least = 65535;
-    let mut i = 0;
-    while i < n {
-        least = lesser(least, swapped(block, 2 * (j + i)));
-        i += 1;
-    }
-    least == 0
-}
-
-// Whether one of n counts of a block from index j on is 0. Counts that are all 1 have a bit in common, which is the quicker test.
+// Whether one of n counts of a block from index j on is 0.
 pub fn some_zero(block: &[u8], j: usize, n: usize) -> bool
     requires { ⌜ 2 * (j + n) ≤ length (now block) ⌝ }
     ensures { λ r. ⌜ r ≡ ltb (first (zeroCount (now (block .entry))) j n) (j + n) ⌝ }
 {
-    if shared_bits(block, j, n) != 0 {
-        return false;
+    let mut found = false;
+    let mut i = 0;
+    while i < n {
+        found = zero_or(swapped(block, 2 * (j + i)), found);
+        i += 1;
     }
-    least_zero(block, j, n)
+    found
 }
 
 // 1 for two numbers that differ.

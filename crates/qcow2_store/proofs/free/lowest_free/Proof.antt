@@ -22,18 +22,18 @@ loop-holds : tie.Need-loop-holds Inv-loop μ-loop
 loop-holds c = (search needs, refl)
 
 returns : tie.Need-returns Inv-loop μ-loop
-returns c = c .lowest-zero .ensures ∙ sym (c .before .before .before .before .loop .inv .1)
+returns c = c .lowest-near .ensures ∙ sym (c .before .before .before .before .loop .inv .1)
 
 loop-again : tie.Need-loop-again Inv-loop μ-loop
 loop-again c =
     let t = c .before .before .before .loop in
     let a = c .before .before .before .before .before .args in
     let p = zeroCount (now (a .block)) in
-    let e : ltb (first p (t .k) 128) (t .k + 128) ≡ false = sym (c .before .some-zero .ensures) ∙ c .if1 .left in
-    (omega arith, t .inv .1 ∙ search-miss p (t .k) 128 (a .end) (omega arith) (ltb-false (first p (t .k) 128) (t .k + 128) e))
+    let e : ltb (first p (t .k) 256) (t .k + 256) ≡ false = sym (c .before .some-zero .ensures) ∙ c .if1 .left in
+    (omega arith, t .inv .1 ∙ search-miss p (t .k) 256 (a .end) (omega arith) (ltb-false (first p (t .k) 256) (t .k + 256) e))
 
 returns-2 : tie.Need-returns-2 Inv-loop μ-loop
-returns-2 c = c .lowest-zero2 .ensures ∙ sym (c .before .before .loop .inv .1)
+returns-2 c = c .lowest-zero .ensures ∙ sym (c .before .before .loop .inv .1)
 
 pub lowest-free-spec : {M : Type 1} → statement M
 lowest-free-spec =
