@@ -4,7 +4,7 @@
 use answers::{Outcome, Verdict};
 
 use crate::entries::Rules;
-use crate::header::{be64, Header};
+use crate::header::{be64, zero, Header};
 use crate::list::List;
 
 /// Counts the references into `scratch` and judges the stored counts by them.
@@ -108,16 +108,24 @@ impl Count<'_> {
         }
     }
 
+    /// The entries of an L2 table, 64 at a time; most groups of zeros need no
+    /// more than a look. One compare tells a good entry with a place: the
+    /// index of its cluster's figure is in bounds.
     fn table(&mut self, rules: &Rules, l1_index: u64, table: usize) {
-        let entries = self.image[table..][..self.header.cluster()].as_chunks().0;
-        let figures = &mut *self.figures;
+        let others = &mut self.figures[1..];
         let mut seen = 0;
-        for (l2_index, entry) in entries.iter().enumerate() {
-            match rules.l2_cluster(u64::from_be_bytes(*entry)) {
-                Some(0) => {}
-                Some(cluster) => seen |= refer(&mut figures[cluster]),
-                None => {
-                    self.bad.get_or_insert(Verdict::BadL2(l1_index, l2_index as u64));
+        let groups = self.image[table..][..self.header.cluster()].as_chunks::<512>().0;
+        for (index, group) in groups.iter().enumerate() {
+            if zero(group) {
+                continue;
+            }
+            for (l2_index, entry) in group.as_chunks().0.iter().enumerate() {
+                let entry = rules.unmarked(u64::from_be_bytes(*entry));
+                if let Some(figure) = others.get_mut(rules.other(entry)) {
+                    seen |= refer(figure);
+                } else if entry != 0 {
+                    let l2_index = (64 * index + l2_index) as u64;
+                    self.bad.get_or_insert(Verdict::BadL2(l1_index, l2_index));
                 }
             }
         }

@@ -40,15 +40,28 @@ impl Rules {
         }
     }
 
+    /// The number of the cluster that a good entry without zero mark names, less
+    /// 1. With bit 63 turned over and the place rotated down, a good entry is
+    /// the cluster's number, and any wrong bit makes it greater than that of
+    /// every cluster.
+    #[inline]
+    pub fn other(&self, entry: u64) -> usize {
+        (entry ^ USED).rotate_right(self.cluster_bits).wrapping_sub(1) as usize
+    }
+
+    /// An L2 entry without a zero mark that is allowed.
+    #[inline]
+    pub fn unmarked(&self, entry: u64) -> u64 {
+        entry & !self.mark
+    }
+
     /// The cluster named by a good entry without zero mark, 0 for none; None
-    /// if the entry is bad. With bit 63 turned over and the place rotated down,
-    /// a good entry is the cluster's number, and any wrong bit makes it greater
-    /// than that of every cluster.
+    /// if the entry is bad.
     #[inline]
     fn cluster(&self, entry: u64) -> Option<usize> {
-        let cluster = (entry ^ USED).rotate_right(self.cluster_bits);
-        if cluster.wrapping_sub(1) < self.others {
-            Some(cluster as usize)
+        let other = self.other(entry);
+        if (other as u64) < self.others {
+            Some(other + 1)
         } else {
             (entry == 0).then_some(0)
         }
@@ -57,8 +70,8 @@ impl Rules {
     /// The cluster named by a good L2 entry, 0 for none; None if it is bad or
     /// compressed.
     #[inline]
-    pub fn l2_cluster(&self, entry: u64) -> Option<usize> {
-        self.cluster(entry & !self.mark)
+    fn l2_cluster(&self, entry: u64) -> Option<usize> {
+        self.cluster(self.unmarked(entry))
     }
 
     /// The place of a good L1 entry, 0 for none; None if the entry is bad.

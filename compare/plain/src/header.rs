@@ -162,7 +162,12 @@ fn tables(
 }
 
 fn all_zero(bytes: &[u8]) -> bool {
-    let zero = |part: &[u8]| part.iter().fold(0, |or, byte| or | byte) == 0;
     let (groups, rest) = bytes.as_chunks::<512>();
     groups.iter().all(|group| zero(group)) && zero(rest)
+}
+
+/// By vectors; straight code where the length is known.
+#[inline]
+pub(crate) fn zero(part: &[u8]) -> bool {
+    part.iter().fold(0, |or, byte| or | byte) == 0
 }

@@ -39,14 +39,12 @@ module _ (s f B F : List ℕ) (at base m : ℕ) (b : Block s base m at) (hB : B 
   figure-at : (j : ℕ) → j < m → getD F j 0 ≡ getD f (base + j) 0
   figure-at j h = rw (hF, getD-take m (drop base f) j 0 h, getD-drop)
 
-  -- a low byte that is not below the figure makes a count that is not
   module _ (z : count (underAt B F) 0 m ≡ 0) where
     enough : (j : ℕ) → j < m → getD f (base + j) 0 ≤ countOf s (base + j)
-    unfolding underAt be16
+    unfolding underAt
     enough j h =
-        let v : getD F j 0 ≤ getD B (2 * j + 1) 0 = ltb-false _ _ (none-counted (underAt B F) 0 m z j (omega arith) (omega arith)) in
-        let w : be16 B (2 * j) ≡ getD B (2 * j) 0 * 256 + getD B (2 * j + 1) 0 = refl in
-        omega (arith, v, w, stored-at j h, figure-at j h)
+        let v : getD F j 0 ≤ be16 B (2 * j) = ltb-false _ _ (none-counted (underAt B F) 0 m z j (omega arith) (omega arith)) in
+        omega (arith, v, stored-at j h, figure-at j h)
 
     none-short : (k : ℕ) → base ≤ k → k < base + m → short s f k ≡ false
     unfolding short

@@ -4,5 +4,6 @@ pub mod Plain
 pub mod Runs
 pub mod Stored
 pub mod Compares
+pub mod Fronts
 pub mod Naming
 pub mod Verdicts

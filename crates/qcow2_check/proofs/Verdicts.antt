@@ -1,7 +1,7 @@
 -- Laws of the verdict: by the counts where all entries are good, else by the first bad entry.
 -- Assumes nothing.
 use Prim.Native.Nat.{ℕ, suc}
-use mathlib.Core.Path.{_≡_, refl, sym, ap, _∙_}
+use mathlib.Core.Path.{_≡_, refl, sym, _∙_}
 use mathlib.Core.Bool.{Bool, true, false, not, _&&_, _||_, true≢false}
 use mathlib.Core.List.{List, [], _∷_}
 use lib.Dec.{eqb, ltb}
@@ -13,7 +13,7 @@ use Rattle.tally.proofs.Laws.{bumpAll-append, tallied}
 use Rattle.qcow2_spec.specs.Header.{version, clusterSize, clusters}
 use Rattle.qcow2_spec.specs.Entries.{place, goodL1, goodL2}
 use Rattle.qcow2_spec.specs.References.{l1Entries, l2Entries, l1Refs, fixedRefs, references, figuresOf}
-use Rattle.qcow2_spec.specs.Check.{l2Verdict, entryVerdict, l1Verdict, tableGood, entryGood, short, over, countsVerdict, verdict}
+use Rattle.qcow2_spec.specs.Check.{l2Verdict, entryVerdict, tableGood, entryGood, short, over, countsVerdict}
 use Rattle.qcow2_spec.specs.declared.Verdict.{Verdict}
 use Rattle.qcow2_spec.specs.declared.Verdict.the-variants.{Sound, Leaks, BadL1, BadL2, Shared, Short}
 
@@ -41,7 +41,7 @@ l2-some good i j (e ∷ es) next next′ h = go (good e) h (l2-some good i (suc 
     go true g r = r g
     go false g r = refl
 
-entry-all : (s : List ℕ) (i e : ℕ) (next : Verdict) → entryGood s e ≡ true → entryVerdict s i e next ≡ next
+pub entry-all : (s : List ℕ) (i e : ℕ) (next : Verdict) → entryGood s e ≡ true → entryVerdict s i e next ≡ next
 unfolding entryGood entryVerdict tableGood
 entry-all s i e next h =
     let k = and-true (goodL1 (clusterSize s) (length s) e) (eqb (place e) 0 || all (goodL2 (version s) (clusterSize s) (length s)) (l2Entries s (place e))) h in
@@ -52,7 +52,7 @@ entry-all s i e next h =
     go true g = refl
     go false g = l2-all (goodL2 (version s) (clusterSize s) (length s)) i 0 (l2Entries s (place e)) next g
 
-entry-some : (s : List ℕ) (i e : ℕ) (next next′ : Verdict) → entryGood s e ≡ false → entryVerdict s i e next ≡ entryVerdict s i e next′
+pub entry-some : (s : List ℕ) (i e : ℕ) (next next′ : Verdict) → entryGood s e ≡ false → entryVerdict s i e next ≡ entryVerdict s i e next′
 unfolding entryGood entryVerdict tableGood
 entry-some s i e next next′ h = go (goodL1 (clusterSize s) (length s) e) (eqb (place e) 0) h
   where
@@ -66,36 +66,9 @@ entry-some s i e next next′ h = go (goodL1 (clusterSize s) (length s) e) (eqb 
     go true true k = absurd (true≢false k)
     go true false k = l2-some L i 0 (l2Entries s (place e)) next next′ k
 
-pub rows-all : (s : List ℕ) (i : ℕ) (es : List ℕ) (next : Verdict) → all (entryGood s) es ≡ true → l1Verdict s i es next ≡ next
-unfolding l1Verdict
-rows-all s i [] next h = refl
-rows-all s i (e ∷ es) next h =
-    let k = and-true (entryGood s e) (all (entryGood s) es) h in
-    entry-all s i e (l1Verdict s (suc i) es next) (k .0) ∙ rows-all s (suc i) es next (k .1)
-
-pub rows-some : (s : List ℕ) (i : ℕ) (es : List ℕ) (next next′ : Verdict) → all (entryGood s) es ≡ false → l1Verdict s i es next ≡ l1Verdict s i es next′
-unfolding l1Verdict
-rows-some s i [] next next′ h = absurd (true≢false h)
-rows-some s i (e ∷ es) next next′ h = go (entryGood s e) refl h (rows-some s (suc i) es next next′)
-  where
-    go : (t : Bool) → entryGood s e ≡ t → (t && all (entryGood s) es) ≡ false
-        → (all (entryGood s) es ≡ false → l1Verdict s (suc i) es next ≡ l1Verdict s (suc i) es next′)
-        → entryVerdict s i e (l1Verdict s (suc i) es next) ≡ entryVerdict s i e (l1Verdict s (suc i) es next′)
-    go true k g r = ap (entryVerdict s i e) (r g)
-    go false k g r = entry-some s i e (l1Verdict s (suc i) es next) (l1Verdict s (suc i) es next′) k
-
 -- the scratch once everything is counted
 pub all-counted : (s : List ℕ) (N : ℕ) → N ≡ clusters s → bumpAll (joined (l1Refs s) (l1Entries s)) (bumpAll (fixedRefs s) (replicate N 0)) ≡ figuresOf s
 unfolding figuresOf references
 all-counted s N e =
     let Z : List ℕ = replicate N 0 in
     sym (bumpAll-append (fixedRefs s) (joined (l1Refs s) (l1Entries s)) Z) ∙ rw (← e) (tallied _ N)
-
--- the verdict where all entries are good, and where some are not
-pub verdict-good : (s : List ℕ) → all (entryGood s) (l1Entries s) ≡ true → countsVerdict s (figuresOf s) ≡ verdict s
-unfolding verdict
-verdict-good s h = sym (rows-all s 0 (l1Entries s) (countsVerdict s (figuresOf s)) h)
-
-pub verdict-bad : (s : List ℕ) → all (entryGood s) (l1Entries s) ≡ false → l1Verdict s 0 (l1Entries s) Sound ≡ verdict s
-unfolding verdict
-verdict-bad s h = rows-some s 0 (l1Entries s) Sound (countsVerdict s (figuresOf s)) h

@@ -1,7 +1,7 @@
 // The stored counts of a refcount block against the figures of its clusters, all in one pass.
 ghost use mathlib.Core.Path.{_≡_};
 ghost use mathlib.Core.Bool.{not};
-ghost use Prim.Native.Nat.{_+_, _*_, _≤_, _<_};
+ghost use Prim.Native.Nat.{_+_, _*_, _/_, _%_, _≤_, _<_};
 ghost use lib.Dec.{eqb, ltb};
 ghost use lib.ListN.{length, getD};
 ghost use Rattle.endian.specs.Big.{be16};
@@ -35,19 +35,26 @@ fn one_unlike(block: &[u8], at: usize, figure: u8) -> u16
     }
 }
 
-// 1 where the low byte of a count is below the figure, as it is wherever the count is.
+// The bytes of a number turned round, by shifts, which are taken eight at a time too.
+fn swapped(t: u16) -> u16
+    ensures { λ r. ⌜ r ≡ t % 256 * 256 + t / 256 ⌝ }
+{
+    t % 256 * 256 + t / 256
+}
+
+// 1 where a count is below the figure.
 fn one_under(block: &[u8], at: usize, figure: u8) -> u16
     requires { ⌜ at + 2 ≤ length (now block) ⌝ }
-    ensures { λ r. ⌜ (r ≡ (if ltb (getD (now (block .entry)) (at + 1) 0) figure then 1 else 0)) × (r ≤ 1) ⌝ }
+    ensures { λ r. ⌜ (r ≡ (if ltb (be16 (now (block .entry)) at) figure then 1 else 0)) × (r ≤ 1) ⌝ }
 {
-    if turned(block, at) < wide(figure) * 256 {
+    if swapped(turned(block, at)) < wide(figure) {
         1
     } else {
         0
     }
 }
 
-// How many counts are not the figures, and how many have a low byte below them.
+// How many counts are not the figures, and how many are below them.
 pub(crate) fn whole_block(block: &[u8], figures: &[u8]) -> Compared
     requires { ⌜ (length (now block) ≡ 2 * length (now figures)) × (length (now figures) ≤ 32768) ⌝ }
     ensures { λ r. ⌜ (r .unlike ≡ count (unlikeAt (now (block .entry)) (now (figures .entry))) 0 (length (now (figures .entry)))) × (r .under ≡ count (underAt (now (block .entry)) (now (figures .entry))) 0 (length (now (figures .entry)))) ⌝ }

@@ -27,7 +27,7 @@ fn judge_each(c: Counted, image: &[u8], scratch: &[u8], at: usize, base: usize, 
     d
 }
 
-// The same for at most a block's clusters. Where no count may be short, those that differ leak: one pass tells.
+// The same for at most a block's clusters. Where no count is short, those that differ leak: one pass tells.
 fn judge_block(
     c: Counted,
     image: &[u8],

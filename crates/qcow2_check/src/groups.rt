@@ -1,34 +1,41 @@
-// Counting the references of plain L2 entries, zero or a place with bit 63 alone, in groups of 64.
-ghost use mathlib.Core.Bool.{true};
+// Counting the references of L2 entries, and groups of 64 of them.
+ghost use mathlib.Core.Path.{_≡_};
 ghost use Prim.Native.Nat.{_+_, _*_, _/_, _^_, _≤_};
+ghost use lib.Dec.{eqb};
 ghost use lib.ListN.{length};
+ghost use Rattle.choice.specs.Pick.{if_then_else_};
+ghost use Rattle.tally.specs.Tally.{bumpAll};
 ghost use Rattle.qcow2_spec.specs.Entries.{goodL2};
 ghost use Rattle.qcow2_spec.specs.References.{l2Refs};
-ghost use Rattle.qcow2_check.specs.Known.{Room, Tried, Walking, Plainly, whole, onFrom};
+ghost use Rattle.qcow2_check.specs.Known.{Room, Plainly};
 
-// Counts what an L2 entry refers to where it is plain. Written over whole numbers, so that the entry is one load; places first, since zeros mostly stand in groups.
-fn plain_entry(scratch: &mut [u8], e: u64, version: u32, bits: u32, n: u64) -> bool
-    requires { ⌜ Room (now scratch) bits n ⌝ }
-    ensures { λ r. ⌜ Tried version (2 ^ bits) n e (now (scratch .entry)) (now (scratch .exit)) r ⌝ }
+// 1 where bit 0 may be set in an L2 entry.
+fn marks(version: u32) -> u64
+    ensures { λ r. ⌜ (r ≡ (if eqb version 3 then 1 else 0)) × (r ≤ 1) ⌝ }
 {
-    if e <= 9223372036854775808 {
-        if e == 0 {
-            return true;
-        }
-        return false;
+    if version == 3 { 1 } else { 0 }
+}
+
+// Counts what an L2 entry refers to, and says whether it is good. A good entry is a mark or nothing, or bit 63, a place and a mark or nothing.
+// Written over whole numbers, so that the entry is one load, and one test tells that there is a place: e is at least 2^63 + 2 and less than 2^63 + n.
+pub(crate) fn walk_entry(scratch: &mut [u8], e: u64, version: u32, bits: u32, n: u64) -> bool
+    requires { ⌜ Room (now scratch) bits n ⌝ }
+    ensures { λ r. ⌜ (r ≡ goodL2 version (2 ^ bits) n e) × (now (scratch .exit) ≡ bumpAll (l2Refs version (2 ^ bits) n e) (now (scratch .entry))) ⌝ }
+{
+    let mark = marks(version);
+    let y = std::num::wrapping_sub_u64(e, 9223372036854775810);
+    if n - 2 <= y {
+        return e <= mark;
     }
-    let x = e - 9223372036854775808;
-    if n <= x {
-        return false;
-    }
-    if power::rest(x, bits) != 0 {
+    let x = y + 2;
+    if power::rest(x, bits) > mark {
         return false;
     }
     tally::bump(scratch, power::quotient(x, bits) as usize);
     true
 }
 
-// The same for 64 entries of an L2 table from i on, as long as they are plain. Returns where it ends.
+// The same for 64 entries of an L2 table from i on, as long as they are good. Returns where it ends.
 fn walk_each(table: &[u8], scratch: &mut [u8], i: usize, version: u32, bits: u32, n: u64) -> usize
     requires { ⌜ Room (now scratch) bits n × (8 * i + 512 ≤ length (now table)) ⌝ }
     ensures { λ r. ⌜ ((i ≤ r) × (r ≤ i + 64)) × Plainly version bits n (now (table .entry)) i (now (scratch .entry)) r (now (scratch .exit)) ⌝ }
@@ -37,7 +44,7 @@ fn walk_each(table: &[u8], scratch: &mut [u8], i: usize, version: u32, bits: u32
     let mut j = i;
     while j < end {
         let e = endian::load64(table, 8 * j);
-        if plain_entry(scratch, e, version, bits, n) {
+        if walk_entry(scratch, e, version, bits, n) {
             j += 1;
         } else {
             return j;
@@ -58,10 +65,10 @@ fn walk_group(table: &[u8], scratch: &mut [u8], i: usize, version: u32, bits: u3
     walk_each(table, scratch, i, version, bits, n)
 }
 
-// The same for the first entries of an L2 table, as long as they are plain. Returns how many.
+// The same for the first entries of an L2 table, as long as they are good. Returns how many.
 pub(crate) fn walk_plain(table: &[u8], scratch: &mut [u8], version: u32, bits: u32, n: u64) -> usize
     requires { ⌜ Room (now scratch) bits n ⌝ }
-    ensures { λ r. ⌜ (r ≤ length (now (table .entry)) / 8) × Walking (l2Refs version (2 ^ bits) n) (goodL2 version (2 ^ bits) n) (whole (now (table .entry))) (now (scratch .entry)) (onFrom r (now (table .entry))) (now (scratch .exit)) true ⌝ }
+    ensures { λ r. ⌜ (r ≤ length (now (table .entry)) / 8) × Plainly version bits n (now (table .entry)) 0 (now (scratch .entry)) r (now (scratch .exit)) ⌝ }
 {
     let per = table.len() / 8;
     let mut j = 0;

@@ -2,11 +2,12 @@
 ghost use mathlib.Core.Path.{_≡_};
 ghost use Prim.Native.Nat.{_≤_};
 ghost use lib.ListN.{length};
-ghost use Rattle.choice.specs.Pick.{all};
+ghost use Rattle.qcow2_spec.specs.Header.{l1Size};
 ghost use Rattle.qcow2_spec.specs.Counts.{free};
-ghost use Rattle.qcow2_spec.specs.References.{l1Entries, figuresOf, scratchAfter};
-ghost use Rattle.qcow2_spec.specs.Check.{entryGood, verdict};
+ghost use Rattle.qcow2_spec.specs.References.{figuresOf, scratchAfter};
+ghost use Rattle.qcow2_spec.specs.Check.{verdict};
 ghost use Rattle.qcow2_spec.specs.Opened.{Opened};
+ghost use Rattle.qcow2_check.specs.Known.{Found};
 use qcow2_spec::Geometry;
 use qcow2_spec::Verdict;
 
@@ -19,22 +20,24 @@ mod lookup;
 mod search;
 mod walk;
 
-// The state of a walk over the L1 table: the next entry, and whether all so far were good.
+// The state of a walk over the L1 table: the next entry, how many at the front are good with all below them, and how many are good at the
+// front of the table below the one after these.
 pub struct Progress {
     pub row: usize,
-    pub good: bool,
+    pub good: usize,
+    pub below: usize,
 }
 
-// A refcount block against the figures of its clusters: how many counts differ, and how many have a low byte below the figure.
+// A refcount block against the figures of its clusters: how many counts differ, and how many are below the figure.
 pub struct Compared {
     pub unlike: u16,
     pub under: u16,
 }
 
-// Counts all references in a scratch of one byte for each cluster, and says whether all entries are good.
-fn count_all(image: &[u8], scratch: &mut [u8], g: Geometry) -> bool
+// Counts all references in a scratch of one byte for each cluster, and finds the first bad entry.
+fn count_all(image: &[u8], scratch: &mut [u8], g: Geometry) -> Progress
     requires { ⌜ Opened g (now image) × (length (now scratch) ≡ g .clusters) ⌝ }
-    ensures { λ r. ⌜ (r ≡ all (entryGood (now (image .entry))) (l1Entries (now (image .entry)))) × (now (scratch .exit) ≡ figuresOf (now (image .entry))) ⌝ }
+    ensures { λ r. ⌜ Found (now (image .entry)) (l1Size (now (image .entry))) (r .good) (r .below) × (now (scratch .exit) ≡ figuresOf (now (image .entry))) ⌝ }
 {
     fixed::count_fixed(image, scratch, g);
     walk::walk_rows(image, scratch, g)
@@ -46,11 +49,11 @@ pub fn check(image: &[u8], scratch: &mut [u8], g: Geometry) -> Verdict
     ensures { λ r. ⌜ (r ≡ verdict (now (image .entry))) × (now (scratch .exit) ≡ scratchAfter (now (image .entry)) (now (scratch .entry))) ⌝ }
 {
     let n = g.clusters;
-    let good = count_all(image, &mut scratch[..n], g);
-    if good {
-        return counts::judge_counts(image, &scratch[..n], g);
+    let w = count_all(image, &mut scratch[..n], g);
+    if w.good < g.rows {
+        return search::first_bad(image, w.good, w.below, g);
     }
-    search::first_bad(image, g)
+    counts::judge_counts(image, &scratch[..n], g)
 }
 
 // The clusters of an accepted image whose stored count is 0.

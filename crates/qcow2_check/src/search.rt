@@ -9,7 +9,7 @@ ghost use Rattle.qcow2_spec.specs.References.{l1Entries};
 ghost use Rattle.qcow2_spec.specs.Check.{l1Verdict};
 ghost use Rattle.qcow2_spec.specs.Opened.{Opened};
 ghost use Rattle.qcow2_spec.specs.declared.Verdict.the-variants.{Sound};
-ghost use Rattle.qcow2_check.specs.Known.{rowBad, belowCount, belowBad};
+ghost use Rattle.qcow2_check.specs.Known.{GoodTo, ClearTo, rowBad, belowCount, belowBad};
 use crate::lookup;
 use qcow2_spec::Geometry;
 use qcow2_spec::Verdict;
@@ -53,20 +53,20 @@ fn below_bad(image: &[u8], i: usize, j: usize, g: Geometry) -> bool
 }
 
 // The first bad entry: L1 entry by L1 entry, each before its L2 entries. Sound where there is none.
-pub(crate) fn first_bad(image: &[u8], g: Geometry) -> Verdict
-    requires { ⌜ Opened g (now image) ⌝ }
+// The L1 entries before `from` with all below them, and the first entries below this one, are known to be good.
+pub(crate) fn first_bad(image: &[u8], from: usize, first: usize, g: Geometry) -> Verdict
+    requires { ⌜ Opened g (now image) × ((from ≤ g .rows) × (GoodTo (now image) from × ClearTo (now image) from first)) ⌝ }
     ensures { λ r. ⌜ r ≡ l1Verdict (now (image .entry)) 0 (l1Entries (now (image .entry))) Sound ⌝ }
 {
     let rows = g.rows;
-    let mut i = 0;
-    let mut j = 0;
+    let mut i = from;
+    let mut j = first;
     let mut below = false;
     'outer: while i < rows {
         if row_bad(image, i, g) {
             break 'outer;
         }
         let end = below_count(image, i, g);
-        j = 0;
         while j < end {
             if below_bad(image, i, j, g) {
                 below = true;
@@ -75,6 +75,7 @@ pub(crate) fn first_bad(image: &[u8], g: Geometry) -> Verdict
             j += 1;
         }
         i += 1;
+        j = 0;
     }
     if below {
         return Verdict::BadL2(i, j);

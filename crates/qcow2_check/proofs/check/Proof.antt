@@ -4,7 +4,7 @@ use lib.ListN.{length}
 use lib.Seq.{length-take-le, take-at}
 use denote.Ref.{now}
 use Rattle.qcow2_spec.specs.References.{scratchAfter}
-use Rattle.qcow2_check.proofs.Verdicts.{verdict-good, verdict-bad}
+use Rattle.qcow2_check.proofs.Naming.{verdict-good, verdict-bad}
 use Rattle.qcow2_check.proofs.check.Statement.{statement}
 use Rattle.qcow2_check.proofs.check.Tie as tie
 
@@ -24,38 +24,43 @@ came-back c =
     let b = c .before .before .before .before in
     c .count-all .kept .1 .0 ∙ length-take-le (b .args .g .clusters) (now (b .args .scratch)) (b .pre .1)
 
-slice-aggregate-judge-counts : tie.Need-slice-aggregate-judge-counts
-slice-aggregate-judge-counts c =
-    let a = c .before .before .before .before in
-    rw (take-at _ _ _ (came-back a)) (sym (came-back a))
-
-judge-counts-requires : tie.Need-judge-counts-requires
-judge-counts-requires c κs =
-    let a = c .before .before .before .before in
-    (a .before .before .before .before .pre .0, rw (take-at _ _ _ (came-back a)) (came-back a))
+first-bad-requires : tie.Need-first-bad-requires
+first-bad-requires c κs =
+    let a = c .before .before .before .before .before in
+    let b = a .before .before .before .before in
+    let e = a .count-all .ensures .0 in
+    (b .pre .0, (rw (b .pre .0 .is-rows) (e .few), (e .front, e .bad (rw (b .pre .0 .is-rows) at (c .if1 .taken)) .1)))
 
 returns : tie.Need-returns
 unfolding scratchAfter
 returns c =
-    let i = c .before .before in
-    let a = i .before .before .before in
+    let i = c .before in
+    let a = i .before .before .before .before .before in
     let b = a .before .before .before .before in
     let e = a .count-all .ensures in (
-      (rw (take-at _ _ _ (came-back a), e .1) at (c .judge-counts .ensures)) ∙ verdict-good (now (b .args .image)) (sym (e .0) ∙ i .if1 .taken),
+      c .first-bad .ensures ∙ verdict-bad (now (b .args .image)) _ _ (e .0) (rw (b .pre .0 .is-rows) at (i .if1 .taken)),
       rw (e .1, b .pre .0 .is-clusters),
     )
 
-first-bad-requires : tie.Need-first-bad-requires
-first-bad-requires c κs = c .before .before .before .before .before .before .before .pre .0
+slice-aggregate-judge-counts : tie.Need-slice-aggregate-judge-counts
+slice-aggregate-judge-counts c =
+    let a = c .before .before .before .before .before .before in
+    rw (take-at _ _ _ (came-back a)) (sym (came-back a))
+
+judge-counts-requires : tie.Need-judge-counts-requires
+judge-counts-requires c κs =
+    let a = c .before .before .before .before .before .before in
+    (a .before .before .before .before .pre .0, rw (take-at _ _ _ (came-back a)) (came-back a))
 
 returns-2 : tie.Need-returns-2
 unfolding scratchAfter
 returns-2 c =
-    let i = c .before in
-    let a = i .before .before .before in
+    let i = c .before .before in
+    let a = i .before .before .before .before .before in
     let b = a .before .before .before .before in
     let e = a .count-all .ensures in (
-      c .first-bad .ensures ∙ verdict-bad (now (b .args .image)) (sym (e .0) ∙ i .if1 .left),
+      (rw (take-at _ _ _ (came-back a), e .1) at (c .judge-counts .ensures))
+          ∙ verdict-good (now (b .args .image)) _ _ (e .0) (rw (b .pre .0 .is-rows) at (i .if1 .left)),
       rw (e .1, b .pre .0 .is-clusters),
     )
 
@@ -66,11 +71,11 @@ check-spec =
     (search needs)
     slice-aggregate-count-all
     count-all-requires
+    first-bad-requires
+    (search needs)
+    returns
     (search needs)
     slice-aggregate-judge-counts
     judge-counts-requires
-    (search needs)
-    returns
-    first-bad-requires
     (search needs)
     returns-2)

@@ -19,8 +19,8 @@ returns c =
     let w = c .before .before in
     let f = w .before .before .before .before in
     let b = f .before .before .before .before in (
-      w .walk-rows .ensures .tested,
-      (rw (f .count-fixed .ensures) at (w .walk-rows .ensures .counted)) ∙ all-counted (now (b .args .image)) (b .args .g .clusters) (b .pre .0 .is-clusters),
+      w .walk-rows .ensures .0,
+      (rw (f .count-fixed .ensures) at (w .walk-rows .ensures .1)) ∙ all-counted (now (b .args .image)) (b .args .g .clusters) (b .pre .0 .is-clusters),
     )
 
 pub count-all-spec : {M : Type 1} → statement M

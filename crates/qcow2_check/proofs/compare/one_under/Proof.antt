@@ -1,23 +1,28 @@
 use borrow.Author.Needs.{needs}
 use native.Mathlib.Omega.{arith}
-use Prim.Native.Nat.{_+_, _≤_, _<_}
+use mathlib.Core.Path.{_≡_}
 use borrow.Author.Tests.{lt-ltb, le-ltb}
-use lib.ListN.{getD}
 use denote.Ref.{now}
+use Rattle.endian.specs.Big.{be16}
 use Rattle.qcow2_check.proofs.compare.one_under.Statement.{statement}
 use Rattle.qcow2_check.proofs.compare.one_under.Tie as tie
 
+-- the count that was swapped
+stored : (c : tie.After-swapped) → c .swapped .result ≡ be16 (now (c .before .before .before .args .block)) (c .before .before .before .args .at)
+unfolding be16
+stored c =
+    let t = c .before .turned .ensures in
+    omega (arith, c .swapped .ensures, t .0, t .1)
+
 returns : tie.Need-returns
 returns c =
-    let a = c .before .before .before .before .args in
-    let e : getD (now (a .block)) (a .at + 1) 0 < a .figure = omega (arith, c .if1 .taken, c .before .wide .ensures, c .before .before .turned .ensures) in
-    (rw (lt-ltb _ _ e), search needs)
+    let w = c .before in
+    (rw (lt-ltb _ _ (rw (w .wide .ensures .0, stored (w .before)) at (c .if1 .taken))), search needs)
 
 returns-2 : tie.Need-returns-2
 returns-2 c =
-    let a = c .before .before .before .before .args in
-    let e : a .figure ≤ getD (now (a .block)) (a .at + 1) 0 = omega (arith, c .if1 .left, c .before .wide .ensures, c .before .before .turned .ensures) in
-    (rw (le-ltb _ _ e), search needs)
+    let w = c .before in
+    (rw (le-ltb _ _ (rw (w .wide .ensures .0, stored (w .before)) at (c .if1 .left))), search needs)
 
 pub one-under-spec : {M : Type 1} → statement M
 one-under-spec = tie.close (tie.spec (search needs) (search needs) (search needs) returns returns-2)

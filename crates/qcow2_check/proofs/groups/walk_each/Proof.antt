@@ -1,11 +1,11 @@
 use borrow.Author.Needs.{needs}
 use native.Mathlib.Omega.{arith}
-use Prim.Native.Nat.{_-_, _≤_, _/_}
-use mathlib.Core.Path.{_≡_, refl, sym}
+use Prim.Native.Nat.{_-_, _^_, _≤_, _/_}
+use mathlib.Core.Path.{_≡_, refl, sym, _∙_}
 use lib.ListN.{length}
 use denote.Ref.{now}
 use Rattle.qcow2_check.specs.Known.{Plainly}
-use Rattle.qcow2_check.proofs.Walks.{walking-first, walking-next}
+use Rattle.qcow2_check.proofs.Walks.{walking-first, plainly-next, refs-bad}
 use Rattle.qcow2_check.proofs.groups.walk_each.Statement.{statement}
 use Rattle.qcow2_check.proofs.groups.walk_each.Tie as tie
 
@@ -19,8 +19,8 @@ abbrev μ-loop : tie.MeasureT-loop
 loop-holds : tie.Need-loop-holds Inv-loop μ-loop
 loop-holds c = (search needs, refl, walking-first)
 
-plain-entry-requires : tie.Need-plain-entry-requires Inv-loop μ-loop
-plain-entry-requires c κs =
+walk-entry-requires : tie.Need-walk-entry-requires Inv-loop μ-loop
+walk-entry-requires c κs =
     let t = c .before .before .before in
     let p = t .before .before .before .pre .0 in
     record { low = p .low; high = p .high; some = p .some; small = p .small; fits = rw (t .loop .inv .1) (p .fits) }
@@ -30,16 +30,20 @@ loop-again c =
     let w = c .before .before .before in
     let l = w .before .before in
     let t = l .before .before in
-    let r = w .plain-entry .ensures in
+    let r = w .walk-entry .ensures in
     let b = t .before .before .before in
     let T = now (b .args .table) in
-    (search needs, search needs, walking-next (length T / 8) (t .loop .j) T (t .loop .inv .2) (omega (arith, l .before .loop-test .taken, b .pre .1)) (rw (← l .load64 .ensures) (r .counted (c .if1 .taken))) (rw (← l .load64 .ensures) (sym (r .good (c .if1 .taken)))))
+    (search needs, search needs, plainly-next (length T / 8) (t .loop .j) T (t .loop .inv .2) (omega (arith, l .before .loop-test .taken, b .pre .1)) (rw (← l .load64 .ensures) (r .1)) (rw (← l .load64 .ensures) (sym (r .0) ∙ c .if1 .taken)))
 
 returns : tie.Need-returns Inv-loop μ-loop
 returns c =
     let w = c .before .before .before in
-    let t = w .before .before .before .before in
-    (search needs, rw (w .plain-entry .ensures .left (c .if1 .left)) (t .loop .inv .2))
+    let l = w .before .before in
+    let t = l .before .before in
+    let a = t .before .before .before .args in
+    let r = w .walk-entry .ensures in
+    let f = refs-bad (a .version) (2 ^ a .bits) (a .n) (l .load64 .result) (t .loop .scratch) (sym (r .0) ∙ c .if1 .left) in
+    (search needs, rw (r .1 ∙ sym f) (t .loop .inv .2))
 
 returns-2 : tie.Need-returns-2 Inv-loop μ-loop
 returns-2 c = (search needs, c .before .loop .inv .2)
@@ -54,7 +58,7 @@ walk-each-spec =
     loop-holds
     (search needs)
     (search needs)
-    plain-entry-requires
+    walk-entry-requires
     (search needs)
     (search needs)
     loop-again

@@ -1,26 +1,22 @@
 use borrow.Author.Needs.{needs}
-use native.Mathlib.Nat.{sub-zero}
 use native.Mathlib.Omega.{arith}
-use Prim.Native.Nat.{_-_, _^_, _≤_}
+use Prim.Native.Nat.{_-_, _≤_}
 use mathlib.Core.Path.{_≡_, refl}
-use mathlib.Core.Bool.{true}
 use lib.ListN.{length}
-use Rattle.qcow2_spec.specs.Entries.{goodL2}
-use Rattle.qcow2_spec.specs.References.{l2Refs}
-use Rattle.qcow2_check.specs.Known.{Walking, whole, onFrom}
+use Rattle.qcow2_check.specs.Known.{Plainly}
 use Rattle.qcow2_check.proofs.Walks.{walking-first, walking-then}
 use Rattle.qcow2_check.proofs.groups.walk_plain.Statement.{statement}
 use Rattle.qcow2_check.proofs.groups.walk_plain.Tie as tie
 
 abbrev Inv-loop : tie.InvT-loop
 Inv-loop table scratch₀ version bits n per j₀ scratch j =
-    (j ≤ per) × (length scratch ≡ length scratch₀) × Walking (l2Refs version (2 ^ bits) n) (goodL2 version (2 ^ bits) n) (whole table) scratch₀ (onFrom j table) scratch true
+    (j ≤ per) × (length scratch ≡ length scratch₀) × Plainly version bits n table 0 scratch₀ j scratch
 
 abbrev μ-loop : tie.MeasureT-loop
 μ-loop table scratch₀ version bits n per j₀ scratch j = per - j
 
 loop-holds : tie.Need-loop-holds Inv-loop μ-loop
-loop-holds c = (search needs, refl, rw sub-zero walking-first)
+loop-holds c = (search needs, refl, walking-first)
 
 walk-group-requires : tie.Need-walk-group-requires Inv-loop μ-loop
 walk-group-requires c κs =

@@ -5,7 +5,7 @@ use mathlib.Core.Path.{_∙_}
 use lib.Pow.{pow-pos}
 use denote.Ref.{now}
 use Rattle.qcow2_check.proofs.Places.{cluster-below}
-use Rattle.qcow2_check.proofs.Walks.{part-of, below-good, below-refs}
+use Rattle.qcow2_check.proofs.Walks.{part-of, below-front, below-refs}
 use Rattle.qcow2_check.proofs.walk.walk_below.Statement.{statement}
 use Rattle.qcow2_check.proofs.walk.walk_below.Tie as tie
 
@@ -30,7 +30,7 @@ returns c =
     let a = b .args in
     let w = u .before .before .before in
     let e = part-of (now (a .image)) (a .p) (w .power .result) (2 ^ a .g .bits) (w .power .ensures .0) in (
-      t .walk-table .ensures .tested ∙ below-good (now (a .image)) (a .g .version) (2 ^ a .g .bits) (a .p) _ (b .pre .0 .is-version) (b .pre .0 .is-cluster) (b .pre .1 .1) e,
+      t .walk-table .ensures .tested ∙ below-front (now (a .image)) (a .g .version) (2 ^ a .g .bits) (a .p) _ (b .pre .0 .is-version) (b .pre .0 .is-cluster) (b .pre .1 .1) e,
       (rw (u .bump .ensures, u .before .quotient .ensures .0) at (t .walk-table .ensures .counted))
           ∙ below-refs (now (a .image)) (a .g .version) (2 ^ a .g .bits) (a .p) _ (b .pre .0 .is-version) (b .pre .0 .is-cluster) (b .pre .1 .1) e (now (a .scratch)),
     )
