@@ -6,6 +6,7 @@ pub mod Kept
 pub mod Refers
 pub mod Verdicts
 pub mod Ways
+pub mod Rough
 pub mod Units
 pub mod Plans
 pub mod Series

@@ -3,20 +3,20 @@ use Prim.Native.Nat.{ℕ, zero, suc, _+_, _-_, _*_, _/_, _%_, _≤_, _<_}
 use native.Mathlib.Nat.{le-refl, zero-mul, zero-add, suc-ne-zero, add-zero, div-lt-iff-lt-mul, mod-lt, div-add-mod', mul-le-mul-right, lt-of-mul-lt-mul-right}
 use native.Mathlib.Decide.{ℕ-discrete, decLe, decLt}
 use native.Mathlib.Omega.{arith}
-use mathlib.Core.Path.{_≡_, refl, sym, ap, _∙_, subst}
+use mathlib.Core.Path.{_≡_, refl, sym, ap, ap₂, _∙_, subst}
 use mathlib.Core.Logic.{_⊎_, inl, inr, _≢_}
 use mathlib.Core.Bool.{Bool, true, false, _&&_, _||_}
 use mathlib.Core.List.{List, [], _∷_, _++_, append-assoc}
 use lib.Dec.{leb, ltb, eqb}
-use lib.ListN.{length, getD, take, length-take}
-use lib.Seq.{getD-take, take-all, sets}
+use lib.ListN.{length, getD}
+use lib.Seq.{sets}
 use borrow.Author.Tests.{ltb-true, ltb-false, leb-true, leb-false, eqb-true, eqb-false, le-leb, lt-ltb}
 use Rattle.clusters.proofs.Cell.{mem, small-enc}
 use Rattle.clusters.proofs.Meta.{cnt, l2, tab, dat, refsOf, Sound, dat-none, keep-refs}
 use Rattle.clusters.proofs.Step.{gread, gread-none, split-index, dat-in, free-not-0, Quiet}
-use Rattle.clusters.proofs.Run.{Store, Run, apply, fill}
+use Rattle.clusters.proofs.Run.{Store, Run, fill}
 use Rattle.clusters.proofs.Call.{Ok, Same as SameReads, Zeroed, MidZ, EndZ, discard-run, unmark-run, countStore}
-use Rattle.clusters.proofs.Write.{Wrote, MidW, EndW, MidP, place-run, marked-run, alloc-run, table-run}
+use Rattle.clusters.proofs.Write.{Wrote, Partly, MidW, EndW, MidP, place-run, marked-run, alloc-run, table-run}
 use Rattle.clusters.proofs.Repair.{MidR, Repaired, repair-run}
 use Rattle.clusters.proofs.Idle.{idle-store}
 use Rattle.choice.specs.Pick.{if_then_else_, first}
@@ -41,6 +41,7 @@ use Rattle.qcow2_spec.specs.declared.Verdict.{Verdict}
 use Rattle.qcow2_spec.specs.declared.Verdict.the-variants.{Sound as IsSound, Leaks, BadL1, BadL2, Shared, Short, Refused as NotChecked}
 use Rattle.units.specs.Plan.{storesCount}
 use Rattle.qcow2_spec.specs.Disk.{Request, write, discard, repair, planOf, finished, Same, Mixed, Fed}
+use Rattle.qcow2_spec.specs.Rough.{chosen, roughly}
 use Rattle.qcow2_spec.specs.Series.{Bytes, BytesOf}
 use Rattle.choice.proofs.Tests.{if-yes, if-no, if-elim, and-true, or-false, two-ways}
 use Rattle.qcow2_spec.proofs.Facts.{Facts, c-pos, c-big}
@@ -49,7 +50,8 @@ use Rattle.qcow2_spec.proofs.Geo.{geo, code, geo-ok}
 use Rattle.qcow2_spec.proofs.Kept.{cnt-own}
 use Rattle.qcow2_spec.proofs.Verdicts.{refs-own, sound-exact}
 use Rattle.qcow2_spec.proofs.Ways.{rd, Slot, WayIs, way-is, dat-own, dat-place, dat-zero, dat-some-own, in-l1, inside}
-use Rattle.qcow2_spec.proofs.Units.{Like, none, also, like-append, like-run, like-aside, like-fill, fill-quiet, cluster-around, count-aside, link-aside, entry-aside, count-like, entry-like, link-like, repair-like}
+use Rattle.qcow2_spec.proofs.Rough.{roughly-nil, roughly-all}
+use Rattle.qcow2_spec.proofs.Units.{Twin, Like, none, also, like-append, like-run, like-cut, like-aside, like-fill, fill-quiet, cluster-around, count-aside, link-aside, entry-aside, count-like, entry-like, link-like, repair-like}
 
 -- ---- the disk after a write
 module _ (C x : ℕ) (d : List ℕ) (disk : ℕ → ℕ) (y : ℕ) where
@@ -81,6 +83,24 @@ dec-range x y n = go (decLe x y) (decLt y (x + n))
     go (yes a) (yes b) = yes (a, b)
     go (yes a) (no b) = no (λ p. b (p .1))
     go (no a) b = no (λ p. a (p .0))
+
+-- the bytes of a request that lies in one cluster
+within-cluster : (C x y n : ℕ) → 0 < C → x % C + n ≤ C → x ≤ y → y < x + n → (y / C ≡ x / C) × (y % C ≡ x % C + (y - x))
+within-cluster C x y n cp fits a b = go (ℕ-discrete (y / C) (x / C))
+  where
+    d1 : y / C * C + y % C ≡ y
+    d1 = div-add-mod' y C
+
+    d2 : x / C * C + x % C ≡ x
+    d2 = div-add-mod' x C
+
+    far : y / C ≢ x / C → Dec (y / C < x / C) → ⊥
+    far n (yes h) = omega (arith, d1, d2, mul-le-mul-right C h, mod-lt y cp)
+    far n (no h) = let k : x / C < y / C = omega arith in omega (arith, d1, d2, mul-le-mul-right C k)
+
+    go : Dec (y / C ≡ x / C) → (y / C ≡ x / C) × (y % C ≡ x % C + (y - x))
+    go (yes e) = (e, omega (arith, d1, d2, ap (λ (z : ℕ). z * C) e))
+    go (no n) = absurd (far n (decLt (y / C) (x / C)))
 
 strong : (b : Bool) (size : ℕ) (old new now : ℕ → ℕ) → Same size now old ⊎ Same size now new → (u : ℕ) → Fed (Stopped u) b size old new now
 unfolding Fed Same Mixed
@@ -149,17 +169,13 @@ module _ (s : List ℕ) (f : Facts s) where
       d2 : x / C * C + x % C ≡ x
       d2 = div-add-mod' x C
 
-      far : y / C ≢ x / C → ¬ ((x ≤ y) × (y < x + length d))
-      far n p = which (decLt (y / C) (x / C))
-        where
-          which : Dec (y / C < x / C) → ⊥
-          which (yes a) = omega (arith, d1, d2, mul-le-mul-right C a, mod-lt y cp)
-          which (no a) = let b : x / C < y / C = omega arith in omega (arith, d1, d2, mul-le-mul-right C b)
+      near : (x ≤ y) × (y < x + length d) → (y / C ≡ x / C) × (y % C ≡ x % C + (y - x))
+      near p = within-cluster C x y (length d) cp fits (p .0) (p .1)
 
       go : Dec (y / C ≡ x / C) → seen t y ≡ finished C (write x d) (seen s) y
       go (no n) =
           h .other (y / C / E) (y / C % E) (y % C) (in-l1 s f y l) (mod-lt (y / C) ep) (mod-lt y cp) (split-index E (y / C) (x / C) n)
-          ∙ sym (written-out C x d (seen s) y (far n))
+          ∙ sym (written-out C x d (seen s) y (λ p. n (near p .0)))
       go (yes e) = pick (dec-range x y (length d))
         where
           e′ : y / C * C ≡ x / C * C
@@ -170,8 +186,7 @@ module _ (s : List ℕ) (f : Facts s) where
 
           pick : Dec ((x ≤ y) × (y < x + length d)) → seen t y ≡ finished C (write x d) (seen s) y
           pick (yes p) =
-              let q : y % C ≡ x % C + (y - x) = omega (arith, d1, d2, e′) in
-              at t ∙ ap (λ (z : ℕ). gread (geo s) (code s) (mem C t) (x / C / E) (x / C % E) z) q ∙ h .inside (y - x) (omega arith)
+              at t ∙ ap (λ (z : ℕ). gread (geo s) (code s) (mem C t) (x / C / E) (x / C % E) z) (near p .1) ∙ h .inside (y - x) (omega arith)
               ∙ sym (written-in C x d (seen s) y (p .0) (p .1))
           pick (no n) = at t ∙ h .outside (y % C) (mod-lt y cp) (side (decLt y x)) ∙ sym (at s) ∙ sym (written-out C x d (seen s) y n)
             where
@@ -183,20 +198,38 @@ module _ (s : List ℕ) (f : Facts s) where
                   apart (yes b) = omega (arith, d1, d2, e′)
                   apart (no b) = absurd (n (omega arith, omega arith))
 
-  part-rd : (t : List ℕ) (x : ℕ) (d : List ℕ) (n : ℕ) → x % clusterSize s + length d ≤ clusterSize s
-      → Wrote (geo s) (code s) (x / clusterSize s / perTable s) (x / clusterSize s % perTable s) (x % clusterSize s) (take n d) s t
+  part-rd : (t : List ℕ) (x : ℕ) (d : List ℕ) → x % clusterSize s + length d ≤ clusterSize s
+      → Partly (geo s) (code s) (x / clusterSize s / perTable s) (x / clusterSize s % perTable s) (x % clusterSize s) d s t
       → Mixed (diskSize s) (seen t) (seen s) (finished (clusterSize s) (write x d) (seen s))
   unfolding Mixed Same
-  part-rd t x d n fits h y l = go (dec-range x y (length (take n d)))
+  part-rd t x d fits h y l = go (dec-range x y (length d))
     where
-      r : seen t y ≡ finished (clusterSize s) (write x (take n d)) (seen s) y
-      r = wrote-rd t x (take n d) (omega (arith, length-take n d)) h y l
+      C : ℕ
+      C = clusterSize s
 
-      go : Dec ((x ≤ y) × (y < x + length (take n d))) → (seen t y ≡ seen s y) ⊎ (seen t y ≡ finished (clusterSize s) (write x d) (seen s) y)
-      go (no q) = inl (r ∙ written-out (clusterSize s) x (take n d) (seen s) y q)
-      go (yes p) =
-          inr (r ∙ written-in (clusterSize s) x (take n d) (seen s) y (p .0) (p .1) ∙ getD-take n d (y - x) 0 (omega (arith, length-take n d))
-          ∙ sym (written-in (clusterSize s) x d (seen s) y (p .0) (omega (arith, length-take n d))))
+      E : ℕ
+      E = perTable s
+
+      r : seen t y ≡ finished C (write x (h .bytes)) (seen s) y
+      r = wrote-rd t x (h .bytes) (omega (arith, h .len)) (h .wrote) y l
+
+      go : Dec ((x ≤ y) × (y < x + length d)) → (seen t y ≡ seen s y) ⊎ (seen t y ≡ finished C (write x d) (seen s) y)
+      go (no q) = inl (r ∙ written-out C x (h .bytes) (seen s) y (λ p. q (p .0, omega (arith, p .1, h .len))))
+      go (yes p) = one (h .each (y - x) (omega arith))
+        where
+          at : (y / C ≡ x / C) × (y % C ≡ x % C + (y - x))
+          at = within-cluster C x y (length d) cp fits (p .0) (p .1)
+
+          old : seen s y ≡ gread (geo s) (code s) m (x / C / E) (x / C % E) (x % C + (y - x))
+          old = ap₂ (λ (a b : ℕ). gread (geo s) (code s) m (a / E) (a % E) b) (at .0) (at .1)
+
+          now : seen t y ≡ getD (h .bytes) (y - x) 0
+          now = r ∙ written-in C x (h .bytes) (seen s) y (p .0) (omega (arith, p .1, h .len))
+
+          one : (getD (h .bytes) (y - x) 0 ≡ gread (geo s) (code s) m (x / C / E) (x / C % E) (x % C + (y - x))) ⊎ (getD (h .bytes) (y - x) 0 ≡ getD d (y - x) 0)
+              → (seen t y ≡ seen s y) ⊎ (seen t y ≡ finished C (write x d) (seen s) y)
+          one (inl e) = inl (now ∙ e ∙ sym old)
+          one (inr e) = inr (now ∙ e ∙ sym (written-in C x d (seen s) y (p .0) (p .1)))
 
   -- ---- what a plan must do
   unfoldable pub Exact : Request → List ℕ → Type 0
@@ -212,15 +245,15 @@ module _ (s : List ℕ) (f : Facts s) where
 
   -- the autoclear field may as well be cleared before the units of a list as after them
   abbrev Aside : List UnitStore → Type 0
-  Aside us = (a : ℕ) (t : List ℕ) → applyAll (take a us) (applyU clear t) ≡ applyU clear (applyAll (take a us) t)
+  Aside us = (a : ℕ) (cs : List Bool) (t : List ℕ) → applyAll (roughly us a cs) (applyU clear t) ≡ applyU clear (applyAll (roughly us a cs) t)
 
   unfoldable pub Fine : Request → Plan → Type 0
   Fine r (refused n) = Unit {0}
-  Fine r (units us) = ((a : ℕ) → Mid r (storesCount us) (applyAll (take a us) s)) × End r (applyAll us s) × Aside us
+  Fine r (units us) = ((a : ℕ) (cs : List Bool) → Mid r (storesCount us) (applyAll (roughly us a cs) s)) × End r (applyAll us s) × Aside us
 
   like-clear : {us : List UnitStore} {vs : List Store} → Like (clusterSize s) us vs → Aside us
   unfolding applyU
-  like-clear lk = like-aside lk autoclearAt (bytes64 0) (omega (arith, length-bytes64 0, c-big s f))
+  like-clear lk a cs = like-aside (like-cut lk a cs) autoclearAt (bytes64 0) (omega (arith, length-bytes64 0, c-big s f))
 
   -- ---- clearing it changes neither what the tables say nor what the guest reads
   module _ (t : List ℕ) (k : Kept t) where
@@ -252,19 +285,24 @@ module _ (s : List ℕ) (f : Facts s) where
   module _ (k : Kept s) where
     -- a list that is fine is so after the clearing unit
     fine-first : (r : Request) (us : List UnitStore) → Fine r (units us) → Fine r (units (clear ∷ us))
-    unfolding Fine storesCount applyAll Same
+    unfolding Fine storesCount applyAll Same roughly chosen
     fine-first r us h = (cut, subst (End r) (sym whole) (end-cleared _ (h .1 .0) r (h .1)), aside)
       where
-        cut : (a : ℕ) → Mid r (storesCount us) (applyAll (take a (clear ∷ us)) s)
-        cut zero = (k, strong (storesCount us) (diskSize s) (seen s) (finished (clusterSize s) r (seen s)) (seen s) (inl (λ y l. refl)))
-        cut (suc a) = subst (Mid r (storesCount us)) (sym (h .2 a s)) (mid-cleared _ (h .0 a .0) r (storesCount us) (h .0 a))
+        -- a cut before the clearing unit stores nothing
+        uncut : (cs : List Bool) → roughly (clear ∷ us) 0 cs ≡ []
+        uncut [] = refl
+        uncut (c ∷ cs) = refl
+
+        cut : (a : ℕ) (cs : List Bool) → Mid r (storesCount us) (applyAll (roughly (clear ∷ us) a cs) s)
+        cut zero cs = rw (uncut cs) (k, strong (storesCount us) (diskSize s) (seen s) (finished (clusterSize s) r (seen s)) (seen s) (inl (λ y l. refl)))
+        cut (suc a) cs = subst (Mid r (storesCount us)) (sym (h .2 a cs s)) (mid-cleared _ (h .0 a cs .0) r (storesCount us) (h .0 a cs))
 
         whole : applyAll us (applyU clear s) ≡ applyU clear (applyAll us s)
-        whole = let e : take (length us) us ≡ us = take-all (length us) us (le-refl (length us)) in rw e at (h .2 (length us) s)
+        whole = let e : roughly us (length us) [] ≡ us = roughly-all us (length us) [] (le-refl (length us)) in rw e at (h .2 (length us) [] s)
 
         aside : Aside (clear ∷ us)
-        aside zero t = refl
-        aside (suc a) t = h .2 a (applyU clear t)
+        aside zero cs t = rw (uncut cs) refl
+        aside (suc a) cs t = h .2 a cs (applyU clear t)
 
     fine-clearing : (r : Request) (p : Plan) → Fine r p → Fine r (clearing s p)
     unfolding clearing clearUnits
@@ -278,11 +316,7 @@ module _ (s : List ℕ) (f : Facts s) where
 
     fine-none : (r : Request) → Same (diskSize s) (seen s) (finished (clusterSize s) r (seen s)) → Exact r s → Fine r (units [])
     unfolding Fine applyAll Same
-    fine-none r h e = ((λ a. cut a), (k, (h, e)), like-clear none)
-      where
-        cut : (a : ℕ) → Mid r (storesCount []) (applyAll (take a []) s)
-        cut zero = (k, strong (storesCount []) (diskSize s) (seen s) (finished (clusterSize s) r (seen s)) (seen s) (inl (λ y l. refl)))
-        cut (suc a) = (k, strong (storesCount []) (diskSize s) (seen s) (finished (clusterSize s) r (seen s)) (seen s) (inl (λ y l. refl)))
+    fine-none r h e = ((λ a cs. rw (roughly-nil a cs) (k, strong (storesCount []) (diskSize s) (seen s) (finished (clusterSize s) r (seen s)) (seen s) (inl (λ y l. refl)))), (k, (h, e)), like-clear none)
 
     fine-refused : (r : Request) (n : ℕ) → Fine r (refused n)
     unfolding Fine
@@ -342,7 +376,7 @@ module _ (s : List ℕ) (f : Facts s) where
       unfolding Fine Exact
       fine-w us vs lk q =
           let r = like-run (MidW (geo s) (code s) (geo-ok s f) m i j o d s) (EndW (geo s) (code s) (geo-ok s f) m i j o d s) s lk q in (
-            (λ a. (r .0 a .0, strong (storesCount us) (diskSize s) (seen s) (finished (clusterSize s) (write x d) (seen s)) (seen (applyAll (take a us) s)) (choose _ (r .0 a .1)))),
+            (λ a cs. (r .0 a cs .0, strong (storesCount us) (diskSize s) (seen s) (finished (clusterSize s) (write x d) (seen s)) (seen (applyAll (roughly us a cs) s)) (choose _ (r .0 a cs .1)))),
             (r .1 .0, (wrote-rd _ x d inC (r .1 .1), tt)),
             like-clear lk,
           )
@@ -358,10 +392,10 @@ module _ (s : List ℕ) (f : Facts s) where
       fine-place us quiet lk dn fl =
           let r = like-run (MidP (geo s) (code s) (geo-ok s f) m i j o d s) (EndW (geo s) (code s) (geo-ok s f) m i j o d s) s lk
           (place-run (geo s) (code s) (geo-ok s f) m s k i j o d li lj inC sm dn fl) in (
-            (λ a. (
-              r .0 a .0,
-              λ u. subst (λ (b : Bool). Fed (Stopped u) b (diskSize s) (seen s) (finished (clusterSize s) (write x d) (seen s)) (seen (applyAll (take a us) s))) (sym quiet)
-                  (part-rd _ x d (r .0 a .1 .0) inC (r .0 a .1 .1)),
+            (λ a cs. (
+              r .0 a cs .0,
+              λ u. subst (λ (b : Bool). Fed (Stopped u) b (diskSize s) (seen s) (finished (clusterSize s) (write x d) (seen s)) (seen (applyAll (roughly us a cs) s))) (sym quiet)
+                  (part-rd _ x d inC (r .0 a cs .1)),
             )),
             (r .1 .0, (wrote-rd _ x d inC (r .1 .1), tt)),
             like-clear lk,
@@ -449,7 +483,7 @@ module _ (s : List ℕ) (f : Facts s) where
     unfolding Fine Exact
     fine-z c us vs lk q =
         let r = like-run (MidZ (geo s) (code s) (geo-ok s f) m (c / perTable s) (c % perTable s) s) (EndZ (geo s) (code s) (geo-ok s f) m (c / perTable s) (c % perTable s) s) s lk q in (
-          (λ a. (r .0 a .0, strong (storesCount us) (diskSize s) (seen s) (finished (clusterSize s) (discard c) (seen s)) (seen (applyAll (take a us) s)) (choose _ (r .0 a .1)))),
+          (λ a cs. (r .0 a cs .0, strong (storesCount us) (diskSize s) (seen s) (finished (clusterSize s) (discard c) (seen s)) (seen (applyAll (roughly us a cs) s)) (choose _ (r .0 a cs .1)))),
           (r .1 .0, (zeroed-rd _ c (r .1 .1), tt)),
           like-clear lk,
         )
@@ -488,12 +522,19 @@ module _ (s : List ℕ) (f : Facts s) where
         inN : dat (geo s) (code s) m (c / perTable s) (c % perTable s) < clusters s
         inN = dat-in (geo s) (code s) (geo-ok s f) m snd (c / perTable s) (c % perTable s) lc (mod-lt c ep)
 
-        freed : (t : List ℕ) → applyU (setCount s (place e / clusterSize s) (countOf s (place e / clusterSize s) - 1)) t
-            ≡ apply (clusterSize s) (countStore (geo s) m (dat (geo s) (code s) m (c / perTable s) (c % perTable s)) (cnt (geo s) m (dat (geo s) (code s) m (c / perTable s) (c % perTable s)) - 1)) t
+        C : ℕ
+        C = clusterSize s
+
+        D : ℕ
+        D = dat (geo s) (code s) m (c / perTable s) (c % perTable s)
+
+        less : Store
+        less = countStore (geo s) m D (cnt (geo s) m D - 1)
+
+        freed : (t : List ℕ) → Twin C (setCount s (place e / C) (countOf s (place e / C) - 1)) less t
         freed t =
-            ap (λ (y : ℕ). applyU (setCount s y (countOf s y - 1)) t) q
-            ∙ ap (λ (y : ℕ). applyU (setCount s (dat (geo s) (code s) m (c / perTable s) (c % perTable s)) (y - 1)) t) (sym (cnt-own s f _ inN))
-            ∙ count-like s f (dat (geo s) (code s) m (c / perTable s) (c % perTable s)) _ inN t
+            subst (λ (y : ℕ). Twin C (setCount s y (countOf s y - 1)) less t) (sym q)
+            (subst (λ (y : ℕ). Twin C (setCount s D (y - 1)) less t) (cnt-own s f _ inN) (count-like s f D _ inN t))
 
     fine-discard-way : (c : ℕ) → c / perTable s < l1Size s → (w : Way) → WayIs s f c w → Fine (discard c) (discardWay s w)
     unfolding WayIs discardWay
@@ -519,7 +560,7 @@ module _ (s : List ℕ) (f : Facts s) where
         let us = repairUnits s (figuresOf s) 0 (clusters s) in
         let lk = repair-like s f snd (clusters s) 0 (omega arith) in
         let r = like-run (MidR (geo s) (code s) (geo-ok s f) m s k) (Repaired (geo s) (code s) (geo-ok s f) m s k) s lk (repair-run (geo s) (code s) (geo-ok s f) m s k) in (
-          (λ a. (r .0 a .0, strong (storesCount us) (diskSize s) (seen s) (finished (clusterSize s) (repair n) (seen s)) (seen (applyAll (take a us) s)) (inl (same-rd s _ (r .0 a .1))))),
+          (λ a cs. (r .0 a cs .0, strong (storesCount us) (diskSize s) (seen s) (finished (clusterSize s) (repair n) (seen s)) (seen (applyAll (roughly us a cs) s)) (inl (same-rd s _ (r .0 a cs .1))))),
           (r .1 .still .fine, (same-rd s _ (r .1 .still .reads), r .1 .exact)),
           like-clear lk,
         )

@@ -1,4 +1,4 @@
--- Demand 3: the theorem about every series of calls on every image that is sound or leaking. Assumes nothing.
+-- Demand 3, for rough cuts and so for smooth ones: the theorem about every series of calls on every image that is sound or leaking. Assumes nothing.
 use Prim.Native.Nat.{ℕ, zero, suc, _+_, _-_, _/_, _≤_, _<_}
 use native.Mathlib.Nat.{le-refl}
 use native.Mathlib.Omega.{arith}
@@ -7,8 +7,7 @@ use mathlib.Core.Logic.{_⊎_, inl, inr}
 use mathlib.Core.Bool.{Bool, true, false, _&&_}
 use mathlib.Core.List.{List, [], _∷_}
 use lib.Dec.{leb, ltb, eqb}
-use lib.ListN.{length, getD, take}
-use lib.Seq.{take-all}
+use lib.ListN.{length, getD}
 use borrow.Author.Tests.{leb-true, le-ltb}
 use Rattle.clusters.proofs.Cell.{mem}
 use Rattle.clusters.proofs.Meta.{Geo, Codec, cnt, refsOf, Sound}
@@ -17,7 +16,7 @@ use Rattle.choice.specs.Pick.{if_then_else_, unless}
 use Rattle.qcow2_spec.specs.Header.{clusterSize, clusters, diskSize, judge}
 use Rattle.qcow2_spec.specs.Counts.{countOf}
 use Rattle.qcow2_spec.specs.Guest.{guestByte, outside}
-use Rattle.units.specs.Plan.{Plan, refused, units, planUnits, ended, outcome, after}
+use Rattle.units.specs.Plan.{Plan, refused, units, planUnits, ended, outcome}
 use Rattle.units.specs.Units.{applyAll}
 use Rattle.tally.specs.Tally.{occurrences}
 use Rattle.qcow2_spec.specs.References.{references}
@@ -27,13 +26,15 @@ use Rattle.units.specs.declared.Outcome.the-variants.{Finished, Stopped, Refuse
 use Rattle.qcow2_spec.specs.declared.Verdict.the-variants.{Refused as NotChecked}
 use Rattle.units.specs.Plan.{storesCount}
 use Rattle.qcow2_spec.specs.Disk.{Request, write, discard, repair, planOf, finished, Same, Mixed, Fed}
-use Rattle.qcow2_spec.specs.Series.{Bytes, Healthy, Agrees, Mended, MendedBy, Call, BytesOf, AllBytes, left, ends, Step, Holds, Demand3}
+use Rattle.qcow2_spec.specs.Rough.{roughly, afterRough}
+use Rattle.qcow2_spec.specs.Series.{Bytes, Healthy, Agrees, Mended, MendedBy, Call, BytesOf, AllBytes, left, leftRough, ends, Step, Holds, RoughHolds, Demand3, RoughDemand3}
 use Rattle.choice.proofs.Tests.{if-no, if-elim, false-or}
 use Rattle.qcow2_spec.proofs.Facts.{Facts, facts, n-whole}
 use Rattle.qcow2_spec.proofs.Geo.{geo, code}
 use Rattle.qcow2_spec.proofs.Kept.{cnt-own, same-judge, same-geo, same-code, same-disk, same-size, same-clusters}
 use Rattle.qcow2_spec.proofs.Verdicts.{refs-own, healthy-sound, sound-healthy, exact-sound}
 use Rattle.qcow2_spec.proofs.Ways.{rd, guest-rd, accepted, read-whole}
+use Rattle.qcow2_spec.proofs.Rough.{roughly-nil, roughly-all, smooth-cut}
 use Rattle.qcow2_spec.proofs.Plans.{fed-same, Exact, Fine, plan-fine}
 
 -- an image of the series: accepted, sound or leaking, and of the first image's shape
@@ -128,14 +129,13 @@ module _ (start s : List ℕ) (k : Good start s) where
     fed : Fed o b (diskSize s) (rd (geo s) (code s) s) (finished (clusterSize s) r (rd (geo s) (code s) s)) (rd (geo s) (code s) t)
     exact : ExactBy s (fs start s k) r o t
 
-  result : (r : Request) (a : ℕ) (p : Plan) → Fine s (fs start s k) r p → Result r (outcome p a) (storesCount (planUnits p)) (after p a s)
-  unfolding outcome ended after planUnits applyAll Fine Fed ExactBy Same
-  result r zero (refused n) h = record { kept = own start s k; fed = λ y l. refl; exact = tt }
-  result r (suc a) (refused n) h = record { kept = own start s k; fed = λ y l. refl; exact = tt }
-  result r a (units us) h =
-      if-elim (λ (o : Outcome). Result r o (storesCount us) (applyAll (take a us) s)) (leb (length us) a) (Finished (length us)) (Stopped a)
-      (λ e. rw (take-all a us (leb-true _ _ e)) (record { kept = h .1 .0; fed = h .1 .1 .0; exact = h .1 .1 .1 }))
-      (λ e. record { kept = h .0 a .0; fed = h .0 a .1 a; exact = tt })
+  result : (r : Request) (a : ℕ) (bytes : List Bool) (p : Plan) → Fine s (fs start s k) r p → Result r (outcome p a) (storesCount (planUnits p)) (afterRough p a bytes s)
+  unfolding outcome ended afterRough planUnits applyAll Fine Fed ExactBy Same
+  result r a bytes (refused n) h = rw (roughly-nil a bytes) (record { kept = own start s k; fed = λ y l. refl; exact = tt })
+  result r a bytes (units us) h =
+      if-elim (λ (o : Outcome). Result r o (storesCount us) (applyAll (roughly us a bytes) s)) (leb (length us) a) (Finished (length us)) (Stopped a)
+      (λ e. rw (roughly-all us a bytes (leb-true _ _ e)) (record { kept = h .1 .0; fed = h .1 .1 .0; exact = h .1 .1 .1 }))
+      (λ e. record { kept = h .0 a bytes .0; fed = h .0 a bytes .1 a; exact = tt })
 
   by-repair : (r : Request) (o : Outcome) (t : List ℕ) → Ok (geo s) (code s) (mem (clusterSize s) s) t → ExactBy s (fs start s k) r o t → MendedBy r o start t
   unfolding MendedBy ExactBy Exact
@@ -145,12 +145,12 @@ module _ (start s : List ℕ) (k : Good start s) where
   by-repair (repair n) (Stopped u) t q h = tt
   by-repair (repair n) (Finished u) t q h = mended start t (next-good start s k t q) (next-exact start s k t q h)
 
-  step : (c : Call) → BytesOf (c .asks) → Good start (left s c) × Step start s (guestByte s) c (guestByte (left s c))
-  unfolding left ends
-  step c sm =
+  step : (c : Call) (bytes : List Bool) → BytesOf (c .asks) → Good start (leftRough s c bytes) × Step start s (guestByte s) c (leftRough s c bytes) (guestByte (leftRough s c bytes))
+  unfolding leftRough ends
+  step c bytes sm =
       let p = planOf s (c .asks) in
-      let t = after p (c .allowance) s in
-      let w : Result (c .asks) (outcome p (c .allowance)) (storesCount (planUnits p)) t = result (c .asks) (c .allowance) p (plan-fine s (fs start s k) (own start s k) (k .judged) (c .asks) sm) in
+      let t = afterRough p (c .allowance) bytes s in
+      let w : Result (c .asks) (outcome p (c .allowance)) (storesCount (planUnits p)) t = result (c .asks) (c .allowance) bytes p (plan-fine s (fs start s k) (own start s k) (k .judged) (c .asks) sm) in
       let z : Same (diskSize s) (rd (geo s) (code s) s) (guestByte s) = next-seen start s k s (own start s k) in (
         next-good start s k t (w .kept),
         record {
@@ -161,12 +161,21 @@ module _ (start s : List ℕ) (k : Good start s) where
         },
       )
 
-all : (start s : List ℕ) → Good start s → (cs : List Call) → AllBytes cs → Holds start s (guestByte s) cs
-unfolding Holds AllBytes
+all : (start s : List ℕ) → Good start s → (cs : List Call) → AllBytes cs → RoughHolds start s (guestByte s) cs
+unfolding RoughHolds AllBytes
 all start s k [] sm = tt
-all start s k (c ∷ cs) sm =
-    let r = step start s k c (sm .0) in
-    (guestByte (left s c), r .1, all start (left s c) (r .0) cs (sm .1))
+all start s k (c ∷ cs) sm = λ bytes.
+    let r = step start s k c bytes (sm .0) in
+    (guestByte (leftRough s c bytes), r .1, all start (leftRough s c bytes) (r .0) cs (sm .1))
+
+-- a series of smooth cuts is one of rough cuts, no byte chosen at any of them
+smooth : (start s : List ℕ) (disk : ℕ → ℕ) (cs : List Call) → RoughHolds start s disk cs → Holds start s disk cs
+unfolding RoughHolds Holds left leftRough
+smooth start s disk [] h = tt
+smooth start s disk (c ∷ cs) h =
+    let e : leftRough s c [] ≡ left s c = smooth-cut (planOf s (c .asks)) (c .allowance) s in
+    let r = h [] in
+    (r .0, subst (λ (t : List ℕ). Step start s disk c t (r .0)) e (r .1), smooth start (left s c) (r .0) cs (subst (λ (t : List ℕ). RoughHolds start t (r .0) cs) e (r .2)))
 
 -- a healthy check is one of an accepted image
 healthy-check : (s : List ℕ) → Healthy (check s (clusters s)) → (judge s ≡ 0) × Healthy (verdict s)
@@ -177,8 +186,11 @@ healthy-check s h = go (judge s) h
     go (suc j) h = absurd h
     go zero h = (refl, subst Healthy (if-no (ltb (clusters s) (clusters s)) (NotChecked 15) (verdict s) (le-ltb (clusters s) (clusters s) (le-refl (clusters s)))) h)
 
-pub demand3 : Demand3
-demand3 s by h calls sm =
+pub rough3 : RoughDemand3
+rough3 s by h calls sm =
     let e = healthy-check s h in
     let k : Good s s = record { judged = e .0; bytes = by; sound = healthy-sound s (facts s (e .0)) by (e .1); one-size = refl; one-C = refl; one-N = refl } in
     (agrees s s k, all s s k calls sm)
+
+pub demand3 : Demand3
+demand3 s by h calls sm = let r = rough3 s by h calls sm in (r .0, smooth s s (guestByte s) calls (r .1))

@@ -6,6 +6,7 @@ pub mod Guest
 pub mod Store
 pub mod Check
 pub mod Disk
+pub mod Rough
 pub mod Series
 pub mod Opened
 pub mod Ready

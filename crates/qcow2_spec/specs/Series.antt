@@ -1,8 +1,10 @@
--- Demand 3: what holds of every series of calls. Paper 01, "The plain disk and the series". It is proved in proofs/Series.antt.
+-- Demand 3: what holds of every series of calls. Paper 01, "The plain disk and the series"; for rough cuts paper 02, T-09.
+-- Both are proved in proofs/Series.antt.
 -- Assumes nothing.
 use Prim.Native.Nat.{ℕ, _+_, _≤_, _<_}
 use mathlib.Core.Path.{_≡_}
 use mathlib.Core.Logic.{_↔_}
+use mathlib.Core.Bool.{Bool}
 use mathlib.Core.List.{List, [], _∷_}
 use lib.ListN.{length, getD}
 use Rattle.choice.specs.Pick.{each}
@@ -18,6 +20,7 @@ use Rattle.qcow2_spec.specs.Check.{check}
 use Rattle.qcow2_spec.specs.declared.Verdict.{Verdict}
 use Rattle.qcow2_spec.specs.declared.Verdict.the-variants.{Sound, Leaks, BadL1, BadL2, Shared, Short, Refused as NotChecked}
 use Rattle.qcow2_spec.specs.Disk.{Request, write, discard, repair, planOf, finished, Fed}
+use Rattle.qcow2_spec.specs.Rough.{afterRough}
 
 -- sound or leaking
 unfoldable pub Healthy : Verdict → Type 0
@@ -58,20 +61,29 @@ pub record Call : Type 0 where
 unfoldable pub left : List ℕ → Call → List ℕ
 left s c = after (planOf s (c .asks)) (c .allowance) s
 
+-- the same where the power fails inside a fill after these units: the chosen bytes of the fill are stored too
+unfoldable pub leftRough : List ℕ → Call → List Bool → List ℕ
+leftRough s c bytes = afterRough (planOf s (c .asks)) (c .allowance) bytes s
+
 -- how a call on s ends
 unfoldable pub ends : List ℕ → Call → Outcome
 ends s c = outcome (planOf s (c .asks)) (c .allowance)
 
--- a call on s finds the plain disk `old`, and the plain disk can then be `now`
-pub record Step (start s : List ℕ) (old : ℕ → ℕ) (c : Call) (now : ℕ → ℕ) : Type 0 where
+-- a call on s finds the plain disk `old` and leaves the image t, and the plain disk can then be `now`
+pub record Step (start s : List ℕ) (old : ℕ → ℕ) (c : Call) (t : List ℕ) (now : ℕ → ℕ) : Type 0 where
   pub fed : Fed (ends s c) (storesCount (planUnits (planOf s (c .asks)))) (diskSize start) old (finished (clusterSize start) (c .asks) old) now
-  pub agrees : Agrees start (left s c) now
-  pub mended : MendedBy (c .asks) (ends s c) start (left s c)
+  pub agrees : Agrees start t now
+  pub mended : MendedBy (c .asks) (ends s c) start t
 
 -- the plain disk can be chosen after each call of the series
 unfoldable pub Holds : (start s : List ℕ) (disk : ℕ → ℕ) → List Call → Type 0
 Holds start s disk [] = Unit {0}
-Holds start s disk (c ∷ cs) = (now : ℕ → ℕ) × Step start s disk c now × Holds start (left s c) now cs
+Holds start s disk (c ∷ cs) = (now : ℕ → ℕ) × Step start s disk c (left s c) now × Holds start (left s c) now cs
+
+-- the same for rough cuts, whichever bytes the drive has stored at each
+unfoldable pub RoughHolds : (start s : List ℕ) (disk : ℕ → ℕ) → List Call → Type 0
+RoughHolds start s disk [] = Unit {0}
+RoughHolds start s disk (c ∷ cs) = (bytes : List Bool) → (now : ℕ → ℕ) × Step start s disk c (leftRough s c bytes) now × RoughHolds start (leftRough s c bytes) now cs
 
 -- every number of the list is a byte
 abbrev pub Bytes : List ℕ → Type 0
@@ -91,3 +103,9 @@ abbrev pub Demand3 : Type 0
 Demand3 =
     (s : List ℕ) → Bytes s → Healthy (check s (clusters s)) → (calls : List Call) → AllBytes calls
     → Agrees s s (guestByte s) × Holds s s (guestByte s) calls
+
+-- the same for every series of calls that are cut smoothly, roughly or not at all
+abbrev pub RoughDemand3 : Type 0
+RoughDemand3 =
+    (s : List ℕ) → Bytes s → Healthy (check s (clusters s)) → (calls : List Call) → AllBytes calls
+    → Agrees s s (guestByte s) × RoughHolds s s (guestByte s) calls
