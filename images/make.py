@@ -56,21 +56,28 @@ def made():
     entry(gone, 512, 0)
     late = bench()
     entry(late, 520, 3 * C)
-    both = bench(bits=17, snapshots=1)
+    both = bench(bits=22, snapshots=1)
+    # An L1 table of 4,097 entries takes 65 clusters, 3 to 67; 12 are free after it.
+    long_l1 = bench(rows=4097) + bytes(64 * C)
+    for k in range(4, 68):
+        count(long_l1, k, 1)
     fits = 'image 3 512 16 65536 2'
     return {
         '01-short': (bench()[:511], 'refused 1'), '02-magic': (bench(magic=0x514649FA), 'refused 2'), '03-version': (bench(version=4), 'refused 3'),
-        '04-bits-8': (bench(bits=8), 'refused 4'), '04-bits-17': (bench(bits=17), 'refused 4'), '04-before-6': (both, 'refused 4'),
+        '04-bits-8': (bench(bits=8), 'refused 4'), '04-bits-22': (bench(bits=22), 'refused 4'), '04-before-6': (both, 'refused 4'),
         '05-odd-length': (bench() + b'\0', 'refused 5'), '05-bits-16': (bench(bits=16), 'refused 5'),
+        '05-bits-17': (bench(bits=17), 'refused 5'), '05-bits-21': (bench(bits=21), 'refused 5'),
         '06-backing': (bench(backing=112), 'refused 6'), '06-crypt': (bench(crypt=1), 'refused 6'), '06-snapshots': (bench(snapshots=1), 'refused 6'),
         '06-order': (bench(order=3), 'refused 6'), '06-header-length': (bench(length=112), 'refused 6'), '07-features': (bench(features=2), 'refused 7'),
-        '08-size': (bench(size=65537), 'refused 8'), '08-l1-size': (bench(rows=4097), 'refused 8'), '08-far': (bench(size=2 ** 40 + 1, rows=4096), 'refused 8'),
+        '08-size': (bench(size=65537), 'refused 8'), '08-l1-size': (bench(rows=65537), 'refused 8'), '08-far': (bench(size=2 ** 40 + 1, rows=4096), 'refused 8'),
         '09-l1-misplaced': (bench(l1=1537), 'refused 9'), '09-l1-past': (bench(l1=8192), 'refused 9'), '09-table-misplaced': (bench(table=513), 'refused 9'),
         '09-table-past': (bench(table=7680, span=2), 'refused 9'), '09-no-table': (bench(span=0), 'refused 9'),
+        '09-l1-size-4097': (bench(rows=4097), 'refused 9'), '09-l1-size-65536': (bench(rows=65536), 'refused 9'),
         '10-block-gone': (gone, 'refused 10'), '10-late-entry': (late, 'refused 10'), 'long': (bytes(65537), 'refused long'),
         'sound-bench': (bench(), f'{fits} | clusters 4 12 0 | verdict sound'),
         '18-odd-size': (bench(size=65535), 'refused 18'), '18-one-more': (bench(size=65537, rows=3), 'refused 18'), '08-before-18': (bench(size=65537, rows=2), 'refused 8'),
         '18-before-9': (bench(size=65535, l1=1537), 'refused 18'),
+        'sound-l1-4097': (long_l1, 'image 3 512 80 65536 4097 | clusters 68 12 0 | verdict sound'),
         'sound-l1-empty-at-n': (empty_l1, 'image 3 512 16 0 0 | clusters 3 13 0 | verdict sound'),
         'sound-beyond-the-end': (past_end, 'image 3 512 16 39936 2 | clusters 6 10 0 | verdict sound'),
         'leaks': (leaks, f'{fits} | clusters 6 10 2 | verdict leaks 2'),

@@ -58,16 +58,16 @@ extern "C" {
 #define QCOW2_WRONG_MAGIC 2u
 /* The version is neither 2 nor 3. */
 #define QCOW2_WRONG_VERSION 3u
-/* cluster_bits is not 9 to 16 (clusters of 512 to 65,536 bytes). */
+/* cluster_bits is not 9 to 21 (clusters of 512 to 2,097,152 bytes). */
 #define QCOW2_WRONG_CLUSTER_BITS 4u
-/* n is not a whole number of clusters, or is above 67,108,864. */
+/* n is not a whole number of clusters, or is above 1,073,741,824. */
 #define QCOW2_WRONG_LENGTH 5u
 /* A backing file, encryption or snapshots; in version 3 also counts of another
  * width than 16 bits (refcount_order not 4) or a header_length other than 104. */
 #define QCOW2_NOT_SUPPORTED 6u
 /* Version 3: a bit of incompatible_features is set. */
 #define QCOW2_INCOMPATIBLE 7u
-/* The disk is above 2^40 bytes, the L1 table has more than 4,096 entries, or
+/* The disk is above 2^40 bytes, the L1 table has more than 65,536 entries, or
  * they do not reach to the end of the disk. */
 #define QCOW2_WRONG_SIZE 8u
 /* The disk is not a whole number of sectors: size is no multiple of 512. */

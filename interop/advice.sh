@@ -23,13 +23,13 @@ create a 1M; heed "create, nothing written" a '5 6'
 create a 64k -o compat=0.10,cluster_size=512; heed "-o compat=0.10,cluster_size=512" a 5
 create b 1M; fill b; create a 1M -b b -F qcow2; heed "a backing file" a '5 6'
 create a 1M; fill a; qemu-img snapshot -c s a; fill a; heed "a snapshot" a 6
-create a 1M -o cluster_size=2M; fill a; heed "-o cluster_size=2M" a 4
+create a 1M -o cluster_size=2M; fill a; heed "-o cluster_size=2M" a 6
 create a 1M -o refcount_bits=1; fill a; heed "-o refcount_bits=1" a 6
 create a 1M -o extended_l2=on; fill a; heed "-o extended_l2=on" a '5 6'
 create a 1M -o data_file=d; fill a; heed "-o data_file=.." a 6
 create a 1M -o lazy_refcounts=on; shorten a; truncate -s %65536 a
 bash -c "qemu-io -f qcow2 -c 'write 0 100k' -c abort a; true" > /dev/null 2>&1; heed "qemu killed" a '7 6'
-create a 136M -o cluster_size=512; fill a; heed "136M with clusters of 512 bytes" a '6 8'
+create a 2049M -o cluster_size=512; fill a; heed "2049M with clusters of 512 bytes" a '6 8'
 qemu-img create -q -f qed a 1M; heed "a QED image" a 2
 head -c 300000 /dev/urandom > a; heed "a raw file" a 2
 

@@ -98,8 +98,14 @@ qemu-img resize -q a 131073 2> /dev/null && text=resized || text=refused
 expect "  resized to 131,073 bytes, by qemu" "$text" refused
 create a 1M; fill a; qemu-img snapshot -c s a; fill a; qemu-img snapshot -d s a
 made "a snapshot made and deleted" a "$whole"
-create a 1M -o cluster_size=128k; made "-o cluster_size=128k" a 'refused 4; refused 4; refused 4'
-create a 100M -o preallocation=full; made "a file above 67,108,864 bytes" a 'refused 5; refused 5; refused 5'
+for size in 128k 2M; do
+    create a 1M -o cluster_size=$size; made "-o cluster_size=$size" a "$usual"
+done
+create a 1T -o cluster_size=2M; made "1T with clusters of 2M" a "$usual"
+create a 1M -o cluster_size=4M 2> /dev/null && text=made || text=refused
+expect "-o cluster_size=4M, by qemu" "$text" refused
+create a 1G -o preallocation=metadata
+made "a file above 1,073,741,824 bytes" a 'refused 5; refused 5; refused 5'
 create b 1M; create a 1M -b b -F qcow2; made "-b (backing file)" a 'refused 5; refused 6; refused 6'
 create a 1M --object secret,id=s,data=x -o encrypt.format=luks,encrypt.key-secret=s
 made "-o encrypt.format=luks" a 'refused 6; refused 6; refused 6'
@@ -112,7 +118,10 @@ made "-o lazy_refcounts=on, qemu killed" a 'refused 6; refused 6; refused 7'
 create a 1M -o compression_type=zstd; made "-o compression_type=zstd" a 'refused 5; refused 6; refused 7'
 create a 1M -o data_file=d; made "-o data_file=.." a 'refused 5; refused 6; refused 7'
 create a $(((1 << 40) + 65536)); made "a disk above 2^40 bytes" a 'refused 5; refused 6; refused 8'
-create a 136M -o cluster_size=512; made "136M with clusters of 512 bytes" a 'refused 6; refused 6; refused 8'
+create a 136M -o cluster_size=512; made "136M with clusters of 512 bytes" a "$whole"
+create a 2G -o cluster_size=512; made "2G with clusters of 512 bytes" a "$whole"
+create a 2049M -o cluster_size=512
+made "2049M with clusters of 512 bytes" a 'refused 6; refused 6; refused 8'
 head -c 500000 /dev/zero | tr '\0' x > raw
 qemu-img convert -f raw -O qcow2 -c raw a; expect "qemu-img check of convert -c" "$(theirs a)" sound
 made "convert -c (compressed clusters)" a 'refused 5; refused 6; damaged'

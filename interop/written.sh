@@ -66,6 +66,7 @@ series 65536 60 compat=1.1,cluster_size=512
 series 1048576 40 compat=1.1,cluster_size=4096
 series 16777216 40 compat=0.10,cluster_size=65536
 series 1073741824 40 compat=1.1,cluster_size=65536
+series 134217728 40 compat=1.1,cluster_size=2M
 
 echo "-- a preallocated image, and zero marks"
 create w 1M -o preallocation=metadata,cluster_size=4096; pad w; shorten w

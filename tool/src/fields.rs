@@ -1,12 +1,14 @@
 //! The header's fields as they stand, judged by nobody: for messages, and for
 //! the layout of an image that the core has accepted.
 
-use std::ops::Range;
+use std::ops::{Range, RangeInclusive};
 
+/// The cluster_bits that are accepted.
+pub const BITS: RangeInclusive<u32> = 9..=21;
 /// The longest image that is accepted.
-pub const MAX_IMAGE: u64 = 67_108_864;
+pub const MAX_IMAGE: u64 = 1 << 30;
 pub const MAX_DISK: u64 = 1 << 40;
-pub const MAX_L1: u64 = 4096;
+pub const MAX_L1: u64 = 65_536;
 /// The disk is a whole number of these.
 pub const SECTOR: u64 = 512;
 /// The header_length that is accepted.
@@ -75,9 +77,9 @@ impl Fields {
         })
     }
 
-    /// Cluster size, if cluster_bits gives a sensible one.
+    /// Cluster size, if cluster_bits is accepted.
     pub fn cluster(&self) -> Option<u64> {
-        (9..=21).contains(&self.cluster_bits).then(|| 1 << self.cluster_bits)
+        BITS.contains(&self.cluster_bits).then(|| 1 << self.cluster_bits)
     }
 }
 

@@ -104,9 +104,10 @@ impl<D: Disk> Ordered<D> {
         Ok(outcome)
     }
 
-    /// Repairs the image, with its changes in the file. Here the list needs no
-    /// second run from its start: the units of a repair are the first of what
-    /// was left by the repair before, so it is a series of cut repairs.
+    /// Repairs the image, with its changes in the file, sector by sector in the
+    /// list's order. A sector has counts of one batch alone, so what the whole
+    /// repair leaves there is what a repair up to the batch's end leaves; only
+    /// where the allowance ends among its counts the core is asked again.
     pub fn repair(
         &mut self,
         allowance: u64,
@@ -116,25 +117,37 @@ impl<D: Disk> Ordered<D> {
         let outcome = qcow2_core::repair(&mut self.work, &mut scratch, u64::MAX);
         let Outcome::Finished(units) = outcome else { return Ok(outcome) };
         let batches = cuts::of_repair(&self.layout, &self.held, &self.work);
-        self.work.copy_from_slice(&self.held);
         if batches.iter().map(|batch| batch.units).sum::<u64>() != units {
             return Err(Fault::Unexpected(units));
         }
         let mut spent = 0;
         for batch in batches {
-            let wanted = batch.units.min(allowance - spent);
-            match qcow2_core::repair(&mut self.work, &mut scratch, wanted) {
-                Outcome::Refused(number) => return Ok(Outcome::Refused(number)),
-                Outcome::Finished(units) | Outcome::Stopped(units) => spent += units,
+            if allowance - spent < batch.units {
+                let outcome = self.repair_part(batch.sector, &mut scratch, allowance - spent)?;
+                done(allowance, units);
+                return Ok(match outcome {
+                    Outcome::Refused(number) => Outcome::Refused(number),
+                    Outcome::Finished(_) | Outcome::Stopped(_) => Outcome::Stopped(allowance),
+                });
             }
             self.bring(&[batch.sector])?;
+            spent += batch.units;
             done(spent, units);
         }
-        if spent == units {
-            Ok(Outcome::Finished(spent))
-        } else {
-            Ok(Outcome::Stopped(spent))
-        }
+        Ok(Outcome::Finished(units))
+    }
+
+    /// An allowance that ends among the counts of one sector.
+    fn repair_part(
+        &mut self,
+        sector: Range<usize>,
+        scratch: &mut [u8],
+        left: u64,
+    ) -> Result<Outcome, Fault> {
+        self.work.copy_from_slice(&self.held);
+        let outcome = qcow2_core::repair(&mut self.work, scratch, left);
+        self.bring(&[sector])?;
+        Ok(outcome)
     }
 
     /// Has anything been stored that did not go to the file? Compares the whole

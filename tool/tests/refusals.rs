@@ -34,11 +34,18 @@ fn with(test: &str, change: &dyn Fn(&mut Vec<u8>)) -> Copy {
 #[test]
 fn headers() {
     type Case<'a> = (u32, &'a str, &'a dyn Fn(&mut Vec<u8>));
-    let cases: [Case; 27] = [
+    let cases: [Case; 31] = [
         (1, "511 bytes", &|image| image.truncate(511)),
         (2, "a QED image", &|image| image[..4].copy_from_slice(b"QED\0")),
         (3, "version is 4", &|image| image[7] = 4),
-        (4, "cluster_bits is 17", &|image| image[23] = 17),
+        (
+            4,
+            "cluster_bits is 22; 9 to 21 are accepted (clusters of 512 to 2097152 bytes)",
+            &|image| image[23] = 22,
+        ),
+        (4, "cluster_bits is 8; ", &|image| image[23] = 8),
+        (5, "clusters of 131072 bytes (122880 are missing to the next)", &|image| image[23] = 17),
+        (5, "`truncate -s 2097152 ", &|image| image[23] = 21),
         (5, "`truncate -s 8704 ", &|image| image.push(0)),
         (6, "backing file", &|image| image[15] = 1),
         (6, "LUKS", &|image| image[35] = 2),
@@ -50,13 +57,16 @@ fn headers() {
         (7, "bit 4 (extended L2 entries)", &|image| image[79] = 16),
         (8, "reach 65536 bytes, the disk has 65537", &|image| image[31] = 1),
         (8, "at most 2^40", &|image| image[24] = 1),
-        (8, "has 4097 entries", &|image| image[38..40].copy_from_slice(&[16, 1])),
+        (8, "has 65537 entries; at most 65536 are", &|image| {
+            image[36..40].copy_from_slice(&65_537u32.to_be_bytes())
+        }),
         (18, "the disk has 65537 bytes, which is not", &|image| (image[31], image[39]) = (1, 3)),
         (18, "`qemu-img resize -f qcow2 ", &|image| (image[31], image[39]) = (1, 3)),
         (18, " 66048`", &|image| (image[31], image[39]) = (1, 3)),
         (18, "(256 are missing to the next)", &|image| image[29..32].copy_from_slice(&[0, 9, 0])),
         (9, "has 0 entries, and 1 are needed", &|image| image[59] = 0),
         (9, "runs past the file's end", &|image| image[42] = 1),
+        (9, "has 32776 bytes, so it runs past", &|image| image[38..40].copy_from_slice(&[16, 1])),
         (9, "no multiple of 512", &|image| image[55] = 1),
         (10, "entry 0 is 0", &|image| image[518..520].copy_from_slice(&[0, 0])),
         (10, "entry 0 is 0x500, which is no cluster", &|image| image[518] = 5),
@@ -123,13 +133,14 @@ fn damage() {
 #[test]
 fn files_that_are_too_long() {
     let copy = Copy::with(&bench_image(), "long");
-    OpenOptions::new().write(true).open(&copy.path).unwrap().set_len(67_108_864 + 512).unwrap();
+    OpenOptions::new().write(true).open(&copy.path).unwrap().set_len((1 << 30) + 512).unwrap();
     for line in ["info IMAGE", "read IMAGE 0 1", "write IMAGE 0"] {
         let answer = copy.run(line);
         assert_eq!(answer.exit, 1);
-        assert!(answer.error.contains("refused (5): the file has 67109376 bytes"));
+        let sentence = "refused (5): the file has 1073742336 bytes; at most 1073741824 are";
+        assert!(answer.error.contains(sentence), "{}", answer.error);
     }
-    OpenOptions::new().write(true).open(&copy.path).unwrap().set_len(67_108_864).unwrap();
+    OpenOptions::new().write(true).open(&copy.path).unwrap().set_len(1 << 30).unwrap();
     assert!(copy.run("info IMAGE").error.contains("refused (9)"));
 }
 

@@ -71,6 +71,45 @@ fn cut_check_repair_read() {
     }
 }
 
+/// The bench image's layout with eight clusters of 2,097,152 bytes, and the
+/// longest disk.
+fn with_long_clusters() -> Vec<u8> {
+    let cluster = 1usize << 21;
+    let mut image = bench_image();
+    let counts = image[1024..1032].to_vec();
+    image.truncate(104);
+    image.resize(8 * cluster, 0);
+    let mut put = |at: usize, number: usize| {
+        image[at..at + 8].copy_from_slice(&(number as u64).to_be_bytes());
+    };
+    put(24, 1 << 40);
+    put(40, 3 * cluster);
+    put(48, cluster);
+    put(cluster, 2 * cluster);
+    image[23] = 21;
+    image[2 * cluster..][..8].copy_from_slice(&counts);
+    image
+}
+
+#[test]
+fn long_clusters() {
+    let (cluster, offset) = (1 << 21, (1 << 40) - 5);
+    let units = 2 * cluster + 4;
+    for (cut, leaks) in [(1, 1), (cluster + 2, 2), (units - 1, 2), (units, 0)] {
+        let mut memory = with_long_clusters();
+        let copy = Copy::with(&memory, "long-clusters");
+        copy.feed(&format!("write IMAGE {offset} --allowance {cut}"), b"hello");
+        qcow2_core::write(&mut memory, offset, b"hello", cut);
+        assert!(copy.bytes() == memory, "cut at {cut}");
+        let check = copy.run("check IMAGE");
+        assert!(leaks == 0 || check.text.starts_with(&format!("leaks {leaks} ")), "{}", check.text);
+        assert_eq!(copy.run("repair IMAGE").exit, 0);
+        assert_eq!(copy.run("check IMAGE").exit, 0);
+        let read = copy.run(&format!("read IMAGE {offset} 5")).out;
+        assert_eq!(read, if cut == units { b"hello" } else { &[0; 5] });
+    }
+}
+
 /// The autoclear bits are cleared by the first unit of the first call, which
 /// the command says.
 #[test]

@@ -16,9 +16,7 @@ pub fn run(bench: &Bench) {
     for bits in [9, 16] {
         for (order, words) in ORDERS {
             for length in LENGTHS {
-                let name = format!("{} MiB, C = {}, {words}: sound", length >> 20, 1 << bits);
-                let made = full::full_of(length, bits, Kind::Data, order);
-                check(bench, &name, &made, Verdict::Sound);
+                sound(bench, length, bits, order, words);
             }
             let name = format!("64 MiB, C = {}, {words}", 1 << bits);
             let made = full::full_of(LENGTH, bits, Kind::Data, order);
@@ -33,6 +31,13 @@ pub fn run(bench: &Bench) {
         sound_leaking_bad(bench, &name, full::many_tables(16, TABLES, order));
     }
     marks(bench);
+}
+
+/// A full image of data.
+pub fn sound(bench: &Bench, length: usize, bits: u32, order: Order, words: &str) {
+    let name = format!("{} MiB, C = {}, {words}: sound", length >> 20, 1 << bits);
+    let made = full::full_of(length, bits, Kind::Data, order);
+    check(bench, &name, &made, Verdict::Sound);
 }
 
 /// An image as it is, then with half of its counts too high, then with a bad

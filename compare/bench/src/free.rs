@@ -30,7 +30,7 @@ pub fn run(bench: &Bench) {
 }
 
 /// Only the last cluster free.
-fn one_wanted(bench: &Bench, length: usize, bits: u32) {
+pub fn one_wanted(bench: &Bench, length: usize, bits: u32) {
     let (made, guest) = full::nearly_full(length, bits, 1);
     let name = format!("{} MiB, C = {}, the last free", length >> 20, 1 << bits);
     searches(bench, &name, &made, guest, Outcome::Stopped(0));

@@ -1,18 +1,24 @@
 //! Times the proved core and the plain implementation side by side and prints
 //! tables of ratios. An argument chooses one family of cases: check, free,
-//! read or store.
+//! read, store or long.
 #![forbid(unsafe_code)]
 
 mod bench;
 mod check;
 mod free;
+mod long;
 mod read;
 mod store;
 
 use bench::Bench;
 
-const FAMILIES: [(&str, fn(&Bench)); 4] =
-    [("check", check::run), ("free", free::run), ("read", read::run), ("store", store::run)];
+const FAMILIES: [(&str, fn(&Bench)); 5] = [
+    ("check", check::run),
+    ("free", free::run),
+    ("read", read::run),
+    ("store", store::run),
+    ("long", long::run),
+];
 
 fn main() {
     let wanted = std::env::args().nth(1);

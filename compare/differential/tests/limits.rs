@@ -2,10 +2,12 @@
 //! the greatest length.
 #![forbid(unsafe_code)]
 
+use answers::{Calls, Found, Outcome, Verdict};
 use made::breaks::{break_header, ORDER};
 use made::drive::usable;
 use made::full;
 use made::image::Made;
+use made::longest;
 use made::pair::Pair;
 use made::real;
 use made::requests::{Request, Requests};
@@ -39,14 +41,14 @@ fn breaks() {
 #[test]
 fn edges() {
     let mut pair = Pair::new(&Core, &Plain);
-    for (image, _) in made::edges::all() {
-        pair.load(&image);
+    made::edges::each(|image, _| {
+        pair.load(image);
         pair.run(&Request::Check { scratch: image.len() / 512 });
         pair.run(&Request::Translate { offset: 0 });
         pair.run(&Request::Translate { offset: (1 << 40) - 1 });
         pair.run(&Request::Translate { offset: 1 << 40 });
         pair.run(&write(0, 1, ALL));
-    }
+    });
 }
 
 /// A made image's fields, taken from a real one of clusters of 512 bytes.
@@ -81,7 +83,7 @@ fn write(offset: u64, len: usize, allowance: u64) -> Request {
 #[test]
 fn full_images() {
     let mut pair = Pair::new(&Core, &Plain);
-    for cluster_bits in [9, 13, 16] {
+    for cluster_bits in [9, 13, 16, 21] {
         let made = full::full(cluster_bits);
         let (cluster, clusters) = (made.cluster(), made.clusters());
         pair.load(&made.bytes);
@@ -94,18 +96,13 @@ fn full_images() {
         pair.run(&Request::Repair { scratch: clusters, allowance: ALL });
         pair.run(&write(made.size - cluster as u64, cluster, ALL));
         pair.run(&Request::Check { scratch: clusters });
-        let mut longer = made.bytes.clone();
-        longer.resize(longer.len() + cluster, 0);
-        pair.load(&longer);
-        pair.run(&Request::Check { scratch: clusters + 1 });
-        pair.run(&Request::Translate { offset: 0 });
     }
 }
 
 #[test]
 fn last_cluster_free() {
     let mut pair = Pair::new(&Core, &Plain);
-    for cluster_bits in [9, 16] {
+    for cluster_bits in [9, 16, 21] {
         let (made, guest) = full::last_free(cluster_bits);
         pair.load(&made.bytes);
         let offset = guest << cluster_bits;
@@ -114,5 +111,61 @@ fn last_cluster_free() {
         }
         pair.run(&Request::Lookup { offset });
         pair.run(&Request::Check { scratch: made.clusters() });
+    }
+}
+
+/// The answer of both sides, each on an image of its own.
+fn both<A: PartialEq>(images: &mut [Made; 2], call: impl Fn(&dyn Calls, &mut [u8]) -> A) -> A {
+    let [core, plain] = images;
+    let answer = call(&Core, &mut core.bytes);
+    assert!(answer == call(&Plain, &mut plain.bytes), "the sides answer differently");
+    answer
+}
+
+/// The verdict, where `offset` lies and what is read around it.
+fn look(images: &mut [Made; 2], offset: u64) -> (Verdict, Found) {
+    let clusters = images[0].clusters();
+    let found = both(images, |side, image| {
+        let (mut scratch, mut out) = (vec![7; clusters], [7; 6]);
+        let verdict = side.check(image, &mut scratch);
+        let read = side.read(image, offset - 4, &mut out);
+        (
+            verdict,
+            side.translate(image, offset),
+            scratch,
+            read,
+            out,
+            side.lookup(image, offset).len(),
+        )
+    });
+    (found.0, found.1)
+}
+
+/// The greatest length, with the last two clusters allotted and freed. No copy
+/// of the images is made: they take little memory.
+#[test]
+fn longest_images() {
+    for cluster_bits in [9, 15, 21] {
+        let images = &mut [(); 2].map(|()| longest::last_two_free(cluster_bits));
+        let (clusters, size) = (images[0].clusters() as u64, images[0].size);
+        let (offset, guest) = (size - 2, (size - 1) >> cluster_bits);
+        let write = |side: &dyn Calls, image: &mut [u8]| side.write(image, offset, b"ab", ALL);
+        let (verdict, found) = look(images, offset);
+        assert!(matches!(verdict, Verdict::Leaks(500..)), "{verdict:?}");
+        assert_eq!(found, Found::Absent);
+        assert_eq!(both(images, write), Outcome::Finished((2 << cluster_bits) + 4));
+        assert_eq!(look(images, offset), (verdict, Found::Host((1 << 30) - 2)));
+        assert_eq!(both(images, write), Outcome::Finished(2));
+        let elsewhere = both(images, |side, image| side.write(image, 0, b"ab", ALL));
+        assert_eq!(elsewhere, Outcome::Refused(14));
+        let cut = both(images, |side, image| side.discard(image, guest, 1));
+        assert_eq!(cut, Outcome::Stopped(1));
+        let repaired =
+            both(images, |side, image| side.repair(image, &mut vec![7; clusters as usize], ALL));
+        assert!(matches!(repaired, Outcome::Finished(500..)), "{repaired:?}");
+        assert_eq!(look(images, offset), (Verdict::Sound, Found::Absent));
+        assert!(images[0].bytes == images[1].bytes);
+        images.iter_mut().for_each(longest::lengthen);
+        assert_eq!(look(images, offset).0, Verdict::Refused(5));
     }
 }

@@ -140,11 +140,14 @@ fn headers(side: &dyn Calls) {
     ] {
         assert_eq!(sized(size, l1_size), number);
     }
-    assert_eq!(refused(&|image| image[36..40].copy_from_slice(&4097u32.to_be_bytes())), 8);
-    assert_eq!(refused(&|image| image[23] = 8), 4);
-    assert_eq!(refused(&|image| image[23] = 9), 0);
-    assert_eq!(refused(&|image| image[23] = 16), 5);
-    assert_eq!(refused(&|image| image[23] = 17), 4);
+    // 4,097 and 65,536 are within the limit, but the table runs past the image.
+    for (l1_size, number) in [(4097u32, 9), (65_536, 9), (65_537, 8)] {
+        let change = |image: &mut Vec<u8>| image[36..40].copy_from_slice(&l1_size.to_be_bytes());
+        assert_eq!(refused(&change), number);
+    }
+    for (cluster_bits, number) in [(8, 4), (9, 0), (16, 5), (17, 5), (21, 5), (22, 4)] {
+        assert_eq!(refused(&|image| image[23] = cluster_bits), number);
+    }
     assert_eq!(refused(&|image| image.truncate(511)), 1);
     assert_eq!(refused(&|image| image.push(0)), 5);
 }

@@ -19,7 +19,7 @@ pub fn break_header(made: &mut Made, number: u32, rng: &mut Rng) -> bool {
             made.put32(4, version);
         }
         4 => {
-            let bits = rng.pick(&[0, 8, 17, 32, 0x0900_0000, 265, u32::MAX]);
+            let bits = rng.pick(&[0, 8, 22, 32, 0x0900_0000, 265, u32::MAX]);
             made.put32(20, bits);
         }
         5 => {
@@ -63,7 +63,7 @@ fn break_8(made: &mut Made, rng: &mut Rng) -> bool {
             made.put64(24, size);
         }
         1 => {
-            let l1_size = rng.pick(&[4097, 1 << 16, 1 << 31, u32::MAX]);
+            let l1_size = rng.pick(&[65_537, 1 << 17, 1 << 25, 1 << 31, u32::MAX]);
             made.put32(36, l1_size);
         }
         _ => {

@@ -13,14 +13,24 @@ use crate::rng::Rng;
 
 /// A sound image with tables and entries.
 pub fn sound(rng: &mut Rng) -> Made {
-    let mut made = Plan::random(rng).build(rng);
+    let plan = Plan::random(rng);
+    sound_of(plan, rng)
+}
+
+fn sound_of(plan: Plan, rng: &mut Rng) -> Made {
+    let mut made = plan.build(rng);
     made.populate(rng);
     made
 }
 
 /// Sound or leaking, at times with no or little room.
 pub fn usable(rng: &mut Rng) -> Made {
-    let mut made = sound(rng);
+    let plan = Plan::random(rng);
+    usable_of(plan, rng)
+}
+
+pub fn usable_of(plan: Plan, rng: &mut Rng) -> Made {
+    let mut made = sound_of(plan, rng);
     if rng.once_in(3) {
         damage::leak(&mut made, rng);
     }
@@ -32,7 +42,12 @@ pub fn usable(rng: &mut Rng) -> Made {
 
 /// An image of any kind: usable, damaged, refused or random.
 pub fn any_image(rng: &mut Rng) -> Made {
-    let mut made = usable(rng);
+    let plan = Plan::random(rng);
+    any_image_of(plan, rng)
+}
+
+pub fn any_image_of(plan: Plan, rng: &mut Rng) -> Made {
+    let mut made = usable_of(plan, rng);
     match rng.below(16) {
         0..=4 => {}
         5 => {
@@ -59,13 +74,18 @@ pub fn any_image(rng: &mut Rng) -> Made {
 pub fn compare(pair: &mut Pair, rng: &mut Rng, calls: u64) {
     while pair.calls < calls {
         let made = any_image(rng);
-        pair.load(&made.bytes);
-        let mut requests = Requests::new(&made);
-        for _ in 0..8 + rng.below(24) {
-            pair.run(&requests.any(rng));
-            if rng.once_in(32) {
-                pair.load(&made.bytes);
-            }
+        compare_on(pair, &made, rng);
+    }
+}
+
+/// Some requests for one image.
+pub fn compare_on(pair: &mut Pair, made: &Made, rng: &mut Rng) {
+    pair.load(&made.bytes);
+    let mut requests = Requests::new(made);
+    for _ in 0..8 + rng.below(24) {
+        pair.run(&requests.any(rng));
+        if rng.once_in(32) {
+            pair.load(&made.bytes);
         }
     }
 }
@@ -98,22 +118,27 @@ pub fn cuts(units: u64, cluster: u64, rng: &mut Rng) -> Vec<u64> {
     cuts
 }
 
-/// Cuts one request at many units, each time from the same image.
+/// Cuts requests for random images until `calls` calls were made.
 pub fn compare_cuts(pair: &mut Pair, rng: &mut Rng, calls: u64) {
     while pair.calls < calls {
         let made = any_image(rng);
-        let mut requests = Requests::new(&made);
-        for _ in 0..4 {
-            let request = requests.storing(rng);
+        compare_cuts_on(pair, &made, rng);
+    }
+}
+
+/// Cuts some requests at many units, each time from the same image.
+pub fn compare_cuts_on(pair: &mut Pair, made: &Made, rng: &mut Rng) {
+    let mut requests = Requests::new(made);
+    for _ in 0..4 {
+        let request = requests.storing(rng);
+        pair.load(&made.bytes);
+        let whole = pair.run(&with_allowance(&request, u64::MAX));
+        let Some(Outcome::Finished(units)) = whole else {
+            continue;
+        };
+        for cut in cuts(units, made.cluster() as u64, rng) {
             pair.load(&made.bytes);
-            let whole = pair.run(&with_allowance(&request, u64::MAX));
-            let Some(Outcome::Finished(units)) = whole else {
-                continue;
-            };
-            for cut in cuts(units, made.cluster() as u64, rng) {
-                pair.load(&made.bytes);
-                pair.run(&with_allowance(&request, cut));
-            }
+            pair.run(&with_allowance(&request, cut));
         }
     }
 }
@@ -139,19 +164,24 @@ pub fn series(side: &dyn Calls, rng: &mut Rng, calls: u64) -> [u64; 3] {
     let mut ended = [0; 3];
     while ended.iter().sum::<u64>() < calls {
         let made = usable(rng);
-        let mut image = made.bytes.clone();
-        let mut requests = Requests::new(&made);
-        let mut series = Series::start(side, &image).expect("a usable image");
-        for _ in 0..20 + rng.below(60) {
-            let request = requests.storing(rng);
-            match step(&mut series, &mut image, &request) {
-                Outcome::Finished(_) => ended[0] += 1,
-                Outcome::Stopped(_) => ended[1] += 1,
-                Outcome::Refused(_) => ended[2] += 1,
-            }
-        }
+        series_on(side, &made, rng, &mut ended);
     }
     ended
+}
+
+/// One series, from this image on.
+pub fn series_on(side: &dyn Calls, made: &Made, rng: &mut Rng, ended: &mut [u64; 3]) {
+    let mut image = made.bytes.clone();
+    let mut requests = Requests::new(made);
+    let mut series = Series::start(side, &image).expect("a usable image");
+    for _ in 0..20 + rng.below(60) {
+        let request = requests.storing(rng);
+        match step(&mut series, &mut image, &request) {
+            Outcome::Finished(_) => ended[0] += 1,
+            Outcome::Stopped(_) => ended[1] += 1,
+            Outcome::Refused(_) => ended[2] += 1,
+        }
+    }
 }
 
 /// Cuts requests at many units; after each cut the request once more, a repair

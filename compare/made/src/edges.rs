@@ -2,16 +2,16 @@
 //! refuses them with, 0 where they are accepted.
 
 use crate::image::Made;
-use crate::plan::{Plan, SECTOR};
+use crate::plan::{Plan, LONG_BITS, MAX_BITS, MAX_L1, SECTOR};
 use crate::rng::Rng;
 
-pub fn all() -> Vec<(Vec<u8>, u32)> {
-    let mut rng = Rng::new(71);
-    let mut edges = Vec::new();
-    sizes(&mut rng, &mut edges);
-    l1_places(&mut rng, &mut edges);
-    refcount_tables(&mut rng, &mut edges);
-    edges
+/// Visits the images one by one: all of them at once take much memory.
+pub fn each(mut visit: impl FnMut(&[u8], u32)) {
+    let (rng, visit) = (&mut Rng::new(71), &mut visit);
+    sizes(rng, visit);
+    l1_sizes(rng, visit);
+    l1_places(rng, visit);
+    refcount_tables(rng, visit);
 }
 
 fn plan(cluster_bits: u32, l1_size: usize, spare: usize) -> Plan {
@@ -26,9 +26,10 @@ fn changed(made: &Made, change: impl Fn(&mut Made)) -> Vec<u8> {
 }
 
 /// Numbers 8 and 18.
-fn sizes(rng: &mut Rng, edges: &mut Vec<(Vec<u8>, u32)>) {
-    for cluster_bits in 9..=16 {
-        for l1_size in [1, 3, 4096] {
+fn sizes(rng: &mut Rng, visit: &mut impl FnMut(&[u8], u32)) {
+    for cluster_bits in 9..=MAX_BITS {
+        let few = [1, 3, 4096, MAX_L1];
+        for &l1_size in if cluster_bits < LONG_BITS { &few[..] } else { &few[..1] } {
             let made = plan(cluster_bits, l1_size, 1).build(rng);
             let reach = made.size;
             for (size, number) in [
@@ -46,31 +47,48 @@ fn sizes(rng: &mut Rng, edges: &mut Vec<(Vec<u8>, u32)>) {
                 (SECTOR - 1, 18),
                 (SECTOR, 0),
             ] {
-                edges.push((changed(&made, |made| made.put64(24, size)), number));
+                visit(&changed(&made, |made| made.put64(24, size)), number);
             }
         }
-        // Room for one L1 entry more, so that only the limit is in the way.
-        let made = plan(cluster_bits, 4096, 1 + (1 << cluster_bits) / 512).build_in_order(rng);
-        edges.push((changed(&made, |made| made.put32(36, 4097)), 8));
     }
-    let made = plan(16, 2048, 1).build(rng);
-    edges.push((changed(&made, |made| made.put64(24, 1 << 40)), 0));
-    edges.push((changed(&made, |made| made.put32(36, 2047)), 8));
+    for (cluster_bits, l1_size) in [(16, 2048), (19, 32), (21, 2)] {
+        let made = plan(cluster_bits, l1_size, 1).build(rng);
+        visit(&changed(&made, |made| made.put64(24, 1 << 40)), 0);
+        visit(&changed(&made, |made| made.put32(36, l1_size as u32 - 1)), 8);
+        visit(&changed(&made, |made| made.put64(24, (1 << 40) + SECTOR)), 8);
+    }
+}
+
+/// Number 8, for the L1 table's length. There is room for an entry more, so
+/// that only the limit is in the way; and what it reaches is past 2^64 for some
+/// of these, with a rest that would do.
+fn l1_sizes(rng: &mut Rng, visit: &mut impl FnMut(&[u8], u32)) {
+    let most = MAX_L1 as u32;
+    for cluster_bits in 9..=MAX_BITS {
+        let mut made = plan(cluster_bits, MAX_L1, 1).build_in_order(rng);
+        made.put64(24, SECTOR);
+        let wraps = (1 << 25) + 1;
+        for (l1_size, number) in
+            [(4097, 0), (most, 0), (most + 1, 8), (1 << 31, 8), (wraps, 8), (u32::MAX, 8)]
+        {
+            visit(&changed(&made, |made| made.put32(36, l1_size)), number);
+        }
+    }
 }
 
 /// Number 9, for the L1 table: it may end where the image ends.
-fn l1_places(rng: &mut Rng, edges: &mut Vec<(Vec<u8>, u32)>) {
-    for cluster_bits in [9, 12, 16] {
+fn l1_places(rng: &mut Rng, visit: &mut impl FnMut(&[u8], u32)) {
+    for cluster_bits in [9, 12, 16, 18, 19, 21] {
         let cluster = 1u64 << cluster_bits;
-        let full = (cluster / 8) as u32;
-        let made = plan(cluster_bits, 1, 6).build(rng);
+        let (full, most) = ((cluster / 8) as u32, MAX_L1 as u32);
+        let made = plan(cluster_bits, 1, 2).build(rng);
         let n = made.bytes.len() as u64;
         for (l1_size, place, number) in [
             (1, n - cluster, 0),
             (1, n, 9),
             (1, cluster.wrapping_neg(), 9),
-            (full.min(4096), n - cluster, 0),
-            (full.min(4096), n - cluster / 2, 9),
+            (full.min(most), n - cluster, 0),
+            (full.min(most), n - cluster / 2, 9),
             (0, n, 0),
             (0, n + cluster, 9),
             (0, 0, 0),
@@ -80,38 +98,38 @@ fn l1_places(rng: &mut Rng, edges: &mut Vec<(Vec<u8>, u32)>) {
                 made.put32(36, l1_size);
                 made.put64(40, place);
             });
-            edges.push((image, number));
+            visit(&image, number);
         }
-        if full < 4096 {
+        if full < most {
             let image = changed(&made, |made| {
                 made.put32(36, full + 1);
                 made.put64(40, n - cluster);
             });
-            edges.push((image, 9));
+            visit(&image, 9);
         }
     }
 }
 
 /// Numbers 9 and 10, for a refcount table that is just full or overfull.
-fn refcount_tables(rng: &mut Rng, edges: &mut Vec<(Vec<u8>, u32)>) {
+fn refcount_tables(rng: &mut Rng, visit: &mut impl FnMut(&[u8], u32)) {
     // 64 blocks of 256 counts fill one cluster of the table.
     let (most, fixed) = (64 * 256, 1 + 1 + 1 + 64);
     let made = plan(9, 1, most - fixed).build(rng);
     assert_eq!((made.table_clusters, made.clusters()), (1, most));
-    edges.push((made.bytes.clone(), 0));
+    visit(&made.bytes, 0);
     let last = made.table_at + 8 * 63;
     let n = made.bytes.len() as u64;
     for (entry, number) in [(0, 10), (512, 0), (n - 512, 0), (n, 10), (513, 10), (n - 256, 10)] {
-        edges.push((changed(&made, |made| made.put64(last, entry)), number));
+        visit(&changed(&made, |made| made.put64(last, entry)), number);
     }
     let longer = changed(&made, |made| made.bytes.resize((most + 1) * 512, 0));
-    edges.push((longer, 9));
+    visit(&longer, 9);
     let made = plan(9, 1, most - fixed + 1).build(rng);
     assert_eq!((made.table_clusters, made.blocks.len()), (2, 65));
-    edges.push((made.bytes.clone(), 0));
-    edges.push((changed(&made, |made| made.put32(56, 1)), 9));
+    visit(&made.bytes, 0);
+    visit(&changed(&made, |made| made.put32(56, 1)), 9);
     let end = made.table_at + 2 * 512 - 8;
-    edges.push((changed(&made, |made| made.put64(end, 1)), 10));
+    visit(&changed(&made, |made| made.put64(end, 1)), 10);
     // A table that takes the whole image, and one cluster more than that.
     let made = plan(9, 1, 8).build(rng);
     for (place, clusters, number) in [(0, made.clusters(), 10), (0, made.clusters() + 1, 9)] {
@@ -119,6 +137,6 @@ fn refcount_tables(rng: &mut Rng, edges: &mut Vec<(Vec<u8>, u32)>) {
             made.put64(48, place);
             made.put32(56, clusters as u32);
         });
-        edges.push((image, number));
+        visit(&image, number);
     }
 }

@@ -1,11 +1,12 @@
 //! Images that are full or nearly so, for tests at the limits and for the
-//! benchmarks.
+//! benchmarks. Any length up to the greatest will do.
 
 use crate::image::{Kind, Made};
 use crate::plan::Plan;
 use crate::rng::Rng;
 
-/// The greatest length.
+/// The usual length. The greatest one takes too much memory and time for most
+/// tests.
 pub const LENGTH: usize = 64 << 20;
 
 /// Where an image's clusters lie.
@@ -43,7 +44,7 @@ pub fn empty_of(length: usize, cluster_bits: u32, guest: usize, order: Order) ->
     made
 }
 
-/// The same of the greatest length, in order.
+/// The same of the usual length, in order.
 pub fn empty(cluster_bits: u32, guest: usize) -> Made {
     empty_of(LENGTH, cluster_bits, guest, Order::Rising)
 }
@@ -80,7 +81,7 @@ pub fn full_of(length: usize, cluster_bits: u32, kind: Kind, order: Order) -> Ma
     made
 }
 
-/// The same of the greatest length, with data in order.
+/// The same of the usual length, with data in order.
 pub fn full(cluster_bits: u32) -> Made {
     full_of(LENGTH, cluster_bits, Kind::Data, Order::Rising)
 }
@@ -112,7 +113,7 @@ pub fn last_two_free(length: usize, cluster_bits: u32) -> (Made, u64) {
     (made, next as u64)
 }
 
-/// An image of the greatest length that is mostly L2 tables, with data in the
+/// An image of the usual length that is mostly L2 tables, with data in the
 /// clusters that are left: of the first guest clusters, or of random ones.
 pub fn many_tables(cluster_bits: u32, tables: usize, order: Order) -> Made {
     let per_table = 1usize << (cluster_bits - 3);

@@ -2,6 +2,7 @@
 //! are kept here beside the bytes, so that damage can still be aimed when the
 //! bytes no longer tell.
 
+use crate::plan::LONG_BITS;
 use crate::rng::Rng;
 
 pub const USED: u64 = 1 << 63;
@@ -159,7 +160,8 @@ impl Made {
             return;
         }
         let kinds = [Kind::Data, Kind::Data, Kind::ZerosWithPlace, Kind::ZerosWithoutPlace];
-        for _ in 0..rng.below(40) {
+        let most = if self.cluster_bits < LONG_BITS { 40 } else { 8 };
+        for _ in 0..rng.below(most) {
             let (l1_index, table) = rng.pick(&self.tables);
             let random = rng.index(self.per_table());
             let inside = match l1_index == reached {

@@ -11,6 +11,7 @@ pub mod edges;
 pub mod full;
 pub mod guard;
 pub mod image;
+pub mod longest;
 pub mod pair;
 pub mod plan;
 pub mod real;

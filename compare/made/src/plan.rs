@@ -3,7 +3,13 @@
 use crate::image::{Made, AUTOCLEAR};
 use crate::rng::Rng;
 
-const MAX_IMAGE: usize = 64 << 20;
+/// The greatest cluster_bits.
+pub const MAX_BITS: u32 = 21;
+/// From these cluster_bits on, images are long: random ones are rare and have
+/// few clusters.
+pub const LONG_BITS: u32 = 17;
+pub const MAX_IMAGE: usize = 1 << 30;
+pub const MAX_L1: usize = 65_536;
 const MAX_DISK: u64 = 1 << 40;
 /// Disks are whole numbers of sectors.
 pub const SECTOR: u64 = 512;
@@ -29,11 +35,16 @@ impl Plan {
     }
 
     pub fn random(rng: &mut Rng) -> Plan {
-        let cluster_bits = rng.pick(&[9, 9, 9, 9, 9, 9, 9, 10, 10, 10, 11, 12, 13, 14, 15, 16]);
+        let cluster_bits = random_bits(rng);
+        Plan::random_with(cluster_bits, rng)
+    }
+
+    pub fn random_with(cluster_bits: u32, rng: &mut Rng) -> Plan {
         let few = 1 + rng.index(70);
         let l1_size = match rng.below(16) {
             0 => 0,
-            1 | 2 => 4096,
+            1 => rng.pick(&[4096, 4097, MAX_L1 - 1, MAX_L1]),
+            2 => 1 + rng.index(4096),
             3..=6 => few,
             _ => 1 + rng.index(3),
         };
@@ -43,7 +54,8 @@ impl Plan {
             (10, 0) => 600 + rng.index(500),
             (9..=11, _) => rng.index(90),
             (12..=14, _) => rng.index(30),
-            _ => rng.index(14),
+            (15..LONG_BITS, _) => rng.index(14),
+            _ => rng.index(5),
         };
         Plan {
             version: rng.pick(&[2, 3, 3]),
@@ -83,17 +95,30 @@ impl Plan {
         let (table, l1) = place_runs(rng, clusters, table_clusters, self.l1_clusters());
         let mut others = self.others(table, l1);
         rng.shuffle(&mut others);
-        self.assemble(table, l1, others, rng)
+        let bytes = rng.bytes(clusters << self.cluster_bits);
+        self.assemble(table, l1, others, bytes)
     }
 
     /// The same with the structures at the front, and spare clusters taken in
     /// rising order.
     pub fn build_in_order(&self, rng: &mut Rng) -> Made {
+        let (clusters, _, _) = self.lengths();
+        self.in_order(rng.bytes(clusters << self.cluster_bits))
+    }
+
+    /// The same with zeros wherever the paper looks at none: what is not stored
+    /// takes no memory.
+    pub fn build_sparse(&self) -> Made {
+        let (clusters, _, _) = self.lengths();
+        self.in_order(vec![0; clusters << self.cluster_bits])
+    }
+
+    fn in_order(&self, bytes: Vec<u8>) -> Made {
         let (_, table_clusters, _) = self.lengths();
         let l1 = 1 + table_clusters;
         let mut others = self.others(1, l1);
         others.reverse();
-        self.assemble(1, l1, others, rng)
+        self.assemble(1, l1, others, bytes)
     }
 
     /// Clusters beside header, refcount table and L1 table.
@@ -105,11 +130,11 @@ impl Plan {
     }
 
     /// The blocks take the last of the other clusters, the rest is spare.
-    fn assemble(&self, table: usize, l1: usize, mut others: Vec<usize>, rng: &mut Rng) -> Made {
-        let (clusters, table_clusters, blocks) = self.lengths();
+    fn assemble(&self, table: usize, l1: usize, mut others: Vec<usize>, bytes: Vec<u8>) -> Made {
+        let (_, table_clusters, blocks) = self.lengths();
         let places = others.split_off(others.len() - blocks);
         let mut made = Made {
-            bytes: rng.bytes(clusters << self.cluster_bits),
+            bytes,
             version: self.version,
             cluster_bits: self.cluster_bits,
             size: self.size,
@@ -127,6 +152,14 @@ impl Plan {
         write_tables(&mut made);
         made
     }
+}
+
+/// Mostly small ones: the longer the clusters, the more time an image takes.
+fn random_bits(rng: &mut Rng) -> u32 {
+    if rng.once_in(150) {
+        return rng.pick(&[17, 17, 17, 17, 18, 18, 18, 19, 19, 20, 21]);
+    }
+    rng.pick(&[9, 9, 9, 9, 9, 9, 9, 10, 10, 10, 11, 12, 13, 14, 15, 16])
 }
 
 /// None, one at either end, one of all, or any.

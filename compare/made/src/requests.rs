@@ -221,7 +221,7 @@ impl<'m> Requests<'m> {
 /// A number at or beside one of the edges.
 fn edge(size: u64, cluster: u64, rng: &mut Rng) -> u64 {
     let bases: [u64; 8] =
-        [0, cluster, size, 1 << 26, 1 << 32, 1 << 40, 1 << 63, cluster.wrapping_neg()];
+        [0, cluster, size, 1 << 30, 1 << 32, 1 << 40, 1 << 63, cluster.wrapping_neg()];
     let delta = rng.pick(&[0, 1, 2, cluster / 2, cluster - 1, cluster]);
     let base = rng.pick(&bases);
     if rng.once_in(2) {

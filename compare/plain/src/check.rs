@@ -147,6 +147,8 @@ fn compare(header: &Header, image: &[u8], figures: &[u8]) -> Verdict {
     for (index, figures) in figures.chunks(header.per_block()).enumerate() {
         let at = header.block_at(image, index);
         let counts = image[at..at + header.cluster()].as_chunks().0;
+        // 16 bits are enough: no block has more than 2^14 counts of clusters,
+        // C / 2 or N, whichever is less.
         let (mut above, mut below) = (0u16, 0u16);
         for (count, &figure) in counts.iter().zip(figures) {
             let count = u16::from_be_bytes(*count);

@@ -1,10 +1,14 @@
 //! The header, judged afresh by every call: numbers 1 to 8, 18, 9 and
 //! 10, tried in this order.
 
+use std::ops::RangeInclusive;
+
 const MAGIC: [u8; 4] = [0x51, 0x46, 0x49, 0xFB];
-const MAX_IMAGE: usize = 64 << 20;
+/// The smallest and the greatest cluster_bits.
+const BITS: RangeInclusive<u32> = 9..=21;
+const MAX_IMAGE: usize = 1 << 30;
 const MAX_DISK: u64 = 1 << 40;
-const MAX_L1: u64 = 4096;
+const MAX_L1: u64 = 65_536;
 const SECTOR: u64 = 512;
 /// The place of autoclear_features.
 pub(crate) const AUTOCLEAR: usize = 88;
@@ -45,8 +49,10 @@ impl Header {
         features(image, version)?;
         let size = be64(image, 24);
         let l1_size = u64::from(be32(image, 36));
-        let reach = l1_size << (2 * cluster_bits - 3);
-        if size > MAX_DISK || l1_size > MAX_L1 || reach < size {
+        // What the L1 table reaches is formed within its limit alone: 2^55 at
+        // most there, and past 2^64 with any l1_size.
+        let reach = || l1_size << (2 * cluster_bits - 3);
+        if size > MAX_DISK || l1_size > MAX_L1 || reach() < size {
             return Err(8);
         }
         if !size.is_multiple_of(SECTOR) {
@@ -103,7 +109,7 @@ fn shape(image: &[u8]) -> Result<(u32, u32), u32> {
         return Err(3);
     }
     let cluster_bits = be32(image, 20);
-    if !(9..=16).contains(&cluster_bits) {
+    if !BITS.contains(&cluster_bits) {
         return Err(4);
     }
     if n & ((1 << cluster_bits) - 1) != 0 || n > MAX_IMAGE {

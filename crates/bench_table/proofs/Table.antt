@@ -104,7 +104,7 @@ starred a b c d e x y z =
 
 pub headers : Headers
 unfolding computing
-headers = record { accepted = refl; size = refl; sectors = refl; whole-sectors = refl; rows = refl; bits-8 = refl; bits-17 = refl; bits-16 = refl; short = refl; odd = refl }
+headers = record { accepted = refl; size = refl; sectors = refl; whole-sectors = refl; rows = refl; rows-past = refl; bits-8 = refl; bits-22 = refl; bits-16 = refl; bits-17 = refl; bits-21 = refl; short = refl; odd = refl }
 
 -- ---- demand 3 speaks of the bench image
 each-byte : (l : List ℕ) → all (λ b. ltb b 256) l ≡ true → (i : ℕ) → ltb (getD l i 0) 256 ≡ true

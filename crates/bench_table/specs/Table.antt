@@ -111,9 +111,12 @@ pub record Headers : Type 0 where
   pub size : judge (benchWith 9 65537 2) ≡ 8
   pub sectors : judge (benchWith 9 65537 3) ≡ 18
   pub whole-sectors : judge (benchWith 9 66048 3) ≡ 0
-  pub rows : judge (benchWith 9 65536 4097) ≡ 8
+  pub rows : judge (benchWith 9 65536 65537) ≡ 8
+  pub rows-past : judge (benchWith 9 65536 4097) ≡ 9
   pub bits-8 : judge (benchWith 8 65536 2) ≡ 4
-  pub bits-17 : judge (benchWith 17 65536 2) ≡ 4
+  pub bits-22 : judge (benchWith 22 65536 2) ≡ 4
   pub bits-16 : judge (benchWith 16 65536 2) ≡ 5
+  pub bits-17 : judge (benchWith 17 65536 2) ≡ 5
+  pub bits-21 : judge (benchWith 21 65536 2) ≡ 5
   pub short : judge (take 511 bench) ≡ 1
   pub odd : judge (bench ++ 0 ∷ []) ≡ 5

@@ -1,6 +1,7 @@
 // What the small program writes of an image. Paper 01, "The bench image".
 ghost use Prim.Native.Nat.{_≤_};
 ghost use Rattle.qcow2_spec.specs.Opened.{Opened};
+ghost use Rattle.qcow2_spec.specs.Header.{mostBits};
 use qcow2_spec::Geometry;
 use qcow2_spec::Judged;
 use qcow2_spec::Verdict;
@@ -19,7 +20,7 @@ fn refused(fd: i32, k: u8) {
 
 // Version, cluster size, clusters, disk size and L1 entries.
 fn image_line(fd: i32, g: Geometry)
-    requires { ⌜ g .bits ≤ 16 ⌝ }
+    requires { ⌜ g .bits ≤ mostBits ⌝ }
 {
     io::write_all(fd, b"image");
     field(fd, g.version as u64);

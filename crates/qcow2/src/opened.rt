@@ -8,6 +8,7 @@ ghost use Rattle.qcow2_spec.specs.Opened.{Opened};
 ghost use Rattle.qcow2_spec.specs.Store.{writePlan, discardPlan};
 ghost use Rattle.qcow2_spec.specs.References.{scratchLeft};
 ghost use Rattle.qcow2_spec.specs.Check.{check as checked, repairPlan};
+ghost use Rattle.qcow2_spec.specs.Header.{mostBits, mostSize};
 use qcow2_spec::Geometry;
 use qcow2_spec::Verdict;
 use units::Outcome;
@@ -37,7 +38,7 @@ pub(crate) fn write(image: &mut [u8], g: Geometry, x: u64, src: &[u8], allowance
 
 // The guest clusters of a disk of size bytes, rounded up.
 fn disk_clusters(size: u64, bits: u32) -> u64
-    requires { ⌜ (bits ≤ 16) × (size ≤ 1099511627776) ⌝ }
+    requires { ⌜ (bits ≤ mostBits) × (size ≤ mostSize) ⌝ }
     ensures { λ r. ⌜ r ≡ ceilDiv size (2 ^ bits) ⌝ }
 {
     power::quotient(size + (power::power(bits) - 1), bits)

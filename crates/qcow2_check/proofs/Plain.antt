@@ -19,6 +19,7 @@ use Rattle.qcow2_spec.specs.Entries.{place, goodPlace, goodL1, goodL2, compress
 use Rattle.qcow2_spec.specs.References.{l2Refs}
 use Rattle.qcow2_entry.proofs.Laws.{place-in}
 use Rattle.qcow2_check.proofs.Walks.{zero-good, named-none, named-some, refs-good, refs-bad}
+use Rattle.qcow2_spec.specs.Header.{mostLength}
 
 -- 1 where bit 0 may be set
 abbrev pub markOf : ℕ → ℕ
@@ -209,7 +210,7 @@ whole-inside x N b e h =
     let m : (x / C + 1) * C ≤ N * C = mul-le-mul-right C (omega (arith, l)) in
     omega (arith, rw (add-mul, one-mul, q) at m)
 
-module _ (v x m b N n : ℕ) (least : 9 ≤ b) (small : n ≤ 67108864) (some : 0 < x) (below : x < n) (fits : n ≡ N * 2 ^ b) (whole : x % 2 ^ b ≡ 0) (mark : m ≤ markOf v) (one : m ≤ 1) where
+module _ (v x m b N n : ℕ) (least : 9 ≤ b) (small : n ≤ mostLength) (some : 0 < x) (below : x < n) (fits : n ≡ N * 2 ^ b) (whole : x % 2 ^ b ≡ 0) (mark : m ≤ markOf v) (one : m ≤ 1) where
   abbrev entry : ℕ
   entry = 9223372036854775808 + (x + m)
 
@@ -255,7 +256,7 @@ module _ (v x m b N n : ℕ) (least : 9 ≤ b) (small : n ≤ 67108864) (some : 
   counted s = (sym good, rw (refs-good v (2 ^ b) n entry good, place-is) (named-some (2 ^ b) x s (λ z. omega arith)))
 
 -- the same, as the code has it
-pub placed-entry : (v b N n e : ℕ) (s : List ℕ) → 9 ≤ b → n ≤ 67108864 → n ≡ N * 2 ^ b → 9223372036854775809 < e → e - 9223372036854775808 < n
+pub placed-entry : (v b N n e : ℕ) (s : List ℕ) → 9 ≤ b → n ≤ mostLength → n ≡ N * 2 ^ b → 9223372036854775809 < e → e - 9223372036854775808 < n
     → (e - 9223372036854775808) % 2 ^ b ≤ markOf v → markOf v ≤ 1
     → (true ≡ goodL2 v (2 ^ b) n e) × (bumped s ((e - 9223372036854775808) / 2 ^ b) ≡ bumpAll (l2Refs v (2 ^ b) n e) s)
 placed-entry v b N n e s least small fits high below rest one =
@@ -274,7 +275,7 @@ placed-entry v b N n e s least small fits high below rest one =
 
 -- ---- by the difference y of the entry and 2^63 + 2, which wraps round
 module _ (e y : ℕ) (wraps : (y + 9223372036854775810) % 2 ^ 64 ≡ e) (whole : y < 2 ^ 64) where
-  pub near : y < 67108864 → e ≡ y + 9223372036854775810
+  pub near : y < mostLength → e ≡ y + 9223372036854775810
   near h = sym wraps ∙ mod-eq-of-lt (omega arith)
 
   away : 9223372036854775809 < e → e ≡ y + 9223372036854775810
@@ -312,7 +313,7 @@ some-bytes zero b n h e = absurd (omega (arith, zero-mul (2 ^ b), e))
 some-bytes (suc L) b n h e = omega (arith, e, add-mul L 1 (2 ^ b), one-mul (2 ^ b))
 
 -- an L1 entry that is a place with bit 63 alone
-pub plain-row : (b n e : ℕ) → 9 ≤ b → n ≤ 67108864 → plain (2 ^ b) n e ≡ true → (goodL1 (2 ^ b) n e ≡ true) × ((place e ≡ e - 9223372036854775808) × (place e ≡ 0 → ⊥))
+pub plain-row : (b n e : ℕ) → 9 ≤ b → n ≤ mostLength → plain (2 ^ b) n e ≡ true → (goodL1 (2 ^ b) n e ≡ true) × ((place e ≡ e - 9223372036854775808) × (place e ≡ 0 → ⊥))
 unfolding goodL1 place
 plain-row b n e least small h =
     let p = plain-parts b n e h in

@@ -16,7 +16,7 @@ use Rattle.qcow2_spec.specs.Header.{perBlock, blocks, blockAt}
 use Rattle.qcow2_spec.specs.Counts.{countOf, countAt, freeAt}
 use Rattle.qcow2_spec.specs.Opened.{Opened}
 use Rattle.qcow2_spec.specs.declared.Geometry.{Geometry}
-use Rattle.qcow2_check.specs.Known.{zeroAt}
+use Rattle.qcow2_check.specs.Known.{Block, zeroAt}
 
 -- the counts of a block's clusters stand in it, one by one
 pub block-stands : (s : List ℕ) (per b j at : ℕ) → per ≡ perBlock s → at ≡ blockAt s b → j < per → countOf s (b * per + j) ≡ be16 s (at + 2 * j)
@@ -26,6 +26,16 @@ block-stands s per b j at e f h =
     let d : (b * per + j) / per ≡ b = mul-add-div-right pos b j ∙ rw (div-eq-of-lt h, add-zero) in
     let m : (b * per + j) % per ≡ j = mul-add-mod-self-right b per j ∙ mod-eq-of-lt h in
     rw (← e, d, m, f)
+
+-- n of its clusters, from index j on
+pub block-part : (s : List ℕ) (base m at j n : ℕ) → Block s base m at → j + n ≤ m → Block s (base + j) n (at + 2 * j)
+block-part s base m at j n h l =
+    record {
+      inside = omega (arith, h .inside);
+      stands = λ i k. let e : base + j + i ≡ base + (j + i) = omega arith in
+          let f : at + 2 * j + 2 * i ≡ at + 2 * (j + i) = omega arith in
+          rw (e, f) (h .stands (j + i) (omega arith));
+    }
 
 -- the free clusters of a block are the zeros in it, where it is lent as a part T of the image
 pub block-free : (s T : List ℕ) (C b at m : ℕ) → T ≡ take C (drop at s) → at ≡ blockAt s b → 2 * m ≤ C → m ≤ perBlock s → count (zeroAt T) 0 m ≡ count (freeAt s) (b * perBlock s) m

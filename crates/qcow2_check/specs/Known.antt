@@ -9,7 +9,7 @@ use lib.ListN.{length, getD, drop}
 use Rattle.choice.specs.Pick.{if_then_else_}
 use Rattle.endian.specs.Big.{be16, be64, part, entries}
 use Rattle.tally.specs.Tally.{bumpAll, joined, Counting}
-use Rattle.qcow2_spec.specs.Header.{version, clusterSize, perTable, l1At}
+use Rattle.qcow2_spec.specs.Header.{mostBits, mostLength, version, clusterSize, perTable, l1At}
 use Rattle.qcow2_spec.specs.Entries.{place, goodL1, goodL2}
 use Rattle.qcow2_spec.specs.Counts.{countOf}
 use Rattle.qcow2_spec.specs.References.{l2Refs, l2Entries}
@@ -20,9 +20,9 @@ use Rattle.qcow2_check.specs.declared.Progress.{Progress}
 -- the scratch has a byte for each cluster of an image of n bytes
 pub record Room (scratch : List ℕ) (bits n : ℕ) : Type 0 where
   pub low : 9 ≤ bits
-  pub high : bits ≤ 16
+  pub high : bits ≤ mostBits
   pub some : 1 ≤ n
-  pub small : n ≤ 67108864
+  pub small : n ≤ mostLength
   pub fits : n ≡ length scratch * 2 ^ bits
 
 -- how many entries at the front of a list pass the test

@@ -5,6 +5,7 @@ ghost use lib.ListN.{length};
 ghost use Rattle.qcow2_spec.specs.Check.{countsVerdict};
 ghost use Rattle.qcow2_spec.specs.Opened.{Opened};
 ghost use Rattle.qcow2_check.specs.Known.{Block, Judging};
+ghost use Rattle.qcow2_spec.specs.Header.{mostLength};
 use crate::compare;
 use crate::lookup;
 use qcow2_spec::Geometry;
@@ -13,7 +14,7 @@ use tally::Counted;
 
 // The m clusters from base on, whose counts stand from a place on, one by one.
 fn judge_each(c: Counted, image: &[u8], scratch: &[u8], at: usize, base: usize, m: usize) -> Counted
-    requires { ⌜ Block (now image) base m at × (((base + m ≤ length (now scratch)) × (length (now scratch) ≤ 67108864)) × Judging (now image) (now scratch) base c) ⌝ }
+    requires { ⌜ Block (now image) base m at × (((base + m ≤ length (now scratch)) × (length (now scratch) ≤ mostLength)) × Judging (now image) (now scratch) base c) ⌝ }
     ensures { λ r. ⌜ Judging (now (image .entry)) (now (scratch .entry)) (base + m) r ⌝ }
 {
     let clusters = scratch.len();
@@ -27,8 +28,8 @@ fn judge_each(c: Counted, image: &[u8], scratch: &[u8], at: usize, base: usize, 
     d
 }
 
-// The same for at most a block's clusters. Where no count is short, those that differ leak: one pass tells.
-fn judge_block(
+// The same for so few clusters that 16 bits can number them. Where no count is short, those that differ leak: one pass tells.
+fn judge_group(
     c: Counted,
     image: &[u8],
     scratch: &[u8],
@@ -36,7 +37,7 @@ fn judge_block(
     base: usize,
     m: usize,
 ) -> Counted
-    requires { ⌜ (Block (now image) base m at × (((base + m ≤ length (now scratch)) × (length (now scratch) ≤ 67108864)) × Judging (now image) (now scratch) base c)) × (m ≤ 32768) ⌝ }
+    requires { ⌜ (Block (now image) base m at × (((base + m ≤ length (now scratch)) × (length (now scratch) ≤ mostLength)) × Judging (now image) (now scratch) base c)) × (m ≤ 32768) ⌝ }
     ensures { λ r. ⌜ Judging (now (image .entry)) (now (scratch .entry)) (base + m) r ⌝ }
 {
     let end = at + 2 * m;
@@ -49,6 +50,28 @@ fn judge_block(
         low: c.low,
         over: c.over + p.unlike as usize,
     }
+}
+
+// The same for any number of clusters, group by group.
+fn judge_block(
+    c: Counted,
+    image: &[u8],
+    scratch: &[u8],
+    at: usize,
+    base: usize,
+    m: usize,
+) -> Counted
+    requires { ⌜ Block (now image) base m at × (((base + m ≤ length (now scratch)) × (length (now scratch) ≤ mostLength)) × Judging (now image) (now scratch) base c) ⌝ }
+    ensures { λ r. ⌜ Judging (now (image .entry)) (now (scratch .entry)) (base + m) r ⌝ }
+{
+    let mut d = c;
+    let mut j = 0;
+    while j < m {
+        let n = power::lesser(32768, m - j);
+        d = judge_group(d, image, scratch, at + 2 * j, base + j, n);
+        j += n;
+    }
+    d
 }
 
 // All clusters, block by block.

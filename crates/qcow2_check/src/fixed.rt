@@ -4,7 +4,7 @@ ghost use Prim.Native.Nat.{_+_, _*_, _/_, _^_, _≤_};
 ghost use lib.ListN.{length, take, replicate};
 ghost use Rattle.choice.specs.Pick.{ceilDiv};
 ghost use Rattle.tally.specs.Tally.{bumpAll, run, joined};
-ghost use Rattle.qcow2_spec.specs.Header.{clusterSize, blocks as blocksOf, table as tableOf};
+ghost use Rattle.qcow2_spec.specs.Header.{mostBits, mostL1, clusterSize, blocks as blocksOf, table as tableOf};
 ghost use Rattle.qcow2_spec.specs.References.{named, fixedRefs};
 ghost use Rattle.qcow2_spec.specs.Opened.{Opened};
 use crate::lookup;
@@ -26,7 +26,7 @@ fn count_blocks(image: &[u8], scratch: &mut [u8], g: Geometry)
 
 // The clusters of the L1 table.
 fn l1_clusters(rows: usize, bits: u32) -> usize
-    requires { ⌜ (bits ≤ 16) × (rows ≤ 4096) ⌝ }
+    requires { ⌜ (bits ≤ mostBits) × (rows ≤ mostL1) ⌝ }
     ensures { λ r. ⌜ r ≡ ceilDiv (8 * rows) (2 ^ bits) ⌝ }
 {
     let c = power::power(bits) as usize;
@@ -35,7 +35,7 @@ fn l1_clusters(rows: usize, bits: u32) -> usize
 
 // Counts the clusters of the refcount table.
 fn count_table(scratch: &mut [u8], table: usize, span: usize, bits: u32)
-    requires { ⌜ (bits ≤ 16) × (table / 2 ^ bits + span ≤ length (now scratch)) ⌝ }
+    requires { ⌜ (bits ≤ mostBits) × (table / 2 ^ bits + span ≤ length (now scratch)) ⌝ }
     ensures { λ _. ⌜ now (scratch .exit) ≡ bumpAll (run (table / 2 ^ bits) span) (now (scratch .entry)) ⌝ }
 {
     let k = power::quotient(table as u64, bits) as usize;
@@ -44,7 +44,7 @@ fn count_table(scratch: &mut [u8], table: usize, span: usize, bits: u32)
 
 // Counts the clusters of the L1 table.
 fn count_l1(scratch: &mut [u8], l1: usize, rows: usize, bits: u32)
-    requires { ⌜ (bits ≤ 16) × ((rows ≤ 4096) × (l1 / 2 ^ bits + ceilDiv (8 * rows) (2 ^ bits) ≤ length (now scratch))) ⌝ }
+    requires { ⌜ (bits ≤ mostBits) × ((rows ≤ mostL1) × (l1 / 2 ^ bits + ceilDiv (8 * rows) (2 ^ bits) ≤ length (now scratch))) ⌝ }
     ensures { λ _. ⌜ now (scratch .exit) ≡ bumpAll (run (l1 / 2 ^ bits) (ceilDiv (8 * rows) (2 ^ bits))) (now (scratch .entry)) ⌝ }
 {
     let k = power::quotient(l1 as u64, bits) as usize;

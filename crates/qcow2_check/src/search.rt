@@ -10,6 +10,7 @@ ghost use Rattle.qcow2_spec.specs.Check.{l1Verdict};
 ghost use Rattle.qcow2_spec.specs.Opened.{Opened};
 ghost use Rattle.qcow2_spec.specs.declared.Verdict.the-variants.{Sound};
 ghost use Rattle.qcow2_check.specs.Known.{GoodTo, ClearTo, rowBad, belowCount, belowBad};
+ghost use Rattle.qcow2_spec.specs.Header.{mostBits};
 use crate::lookup;
 use qcow2_spec::Geometry;
 use qcow2_spec::Verdict;
@@ -36,7 +37,7 @@ fn below_count(image: &[u8], i: usize, g: Geometry) -> usize
 
 // Whether entry j of an L2 table is bad.
 fn entry_bad(table: &[u8], j: usize, version: u32, bits: u32, n: u64) -> bool
-    requires { ⌜ (bits ≤ 16) × (8 * j + 8 ≤ length (now table)) ⌝ }
+    requires { ⌜ (bits ≤ mostBits) × (8 * j + 8 ≤ length (now table)) ⌝ }
     ensures { λ r. ⌜ r ≡ not (goodL2 version (2 ^ bits) n (be64 (now (table .entry)) (8 * j))) ⌝ }
 {
     !qcow2_entry::good_l2(endian::load64(table, 8 * j), version, n, bits)

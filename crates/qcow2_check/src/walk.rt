@@ -6,7 +6,7 @@ ghost use lib.Dec.{eqb};
 ghost use lib.ListN.{length};
 ghost use Rattle.choice.specs.Pick.{if_then_else_};
 ghost use Rattle.tally.specs.Tally.{bumpAll, joined};
-ghost use Rattle.qcow2_spec.specs.Header.{perTable, l1Size};
+ghost use Rattle.qcow2_spec.specs.Header.{mostBits, perTable, l1Size};
 ghost use Rattle.qcow2_spec.specs.Entries.{goodL2};
 ghost use Rattle.qcow2_spec.specs.References.{named, l2Refs, tableRefs, l1Refs, l1Entries};
 ghost use Rattle.qcow2_spec.specs.Opened.{Opened};
@@ -31,7 +31,7 @@ fn front(r: usize, j: usize, good: bool) -> usize
 
 // Counts the cluster that a place names, where it names one.
 pub(crate) fn count_place(scratch: &mut [u8], p: u64, bits: u32)
-    requires { ⌜ (bits ≤ 16) × (p < length (now scratch) * 2 ^ bits) ⌝ }
+    requires { ⌜ (bits ≤ mostBits) × (p < length (now scratch) * 2 ^ bits) ⌝ }
     ensures { λ _. ⌜ now (scratch .exit) ≡ bumpAll (named (2 ^ bits) p) (now (scratch .entry)) ⌝ }
 {
     if p == 0 {

@@ -18,6 +18,7 @@ use Rattle.qcow2_spec.specs.declared.Way.the-variants.{Slot}
 use Rattle.qcow2_spec.proofs.Facts.{good-place2}
 use Rattle.qcow2_entry.specs.Plain.{plain}
 use Rattle.qcow2_entry.proofs.Laws.{place-in}
+use Rattle.qcow2_spec.specs.Header.{mostLength}
 
 -- a multiple of a larger power is one of a smaller
 low-bits : (x b : ℕ) → 9 ≤ b → x % 2 ^ b ≡ 0 → x % 512 ≡ 0
@@ -26,7 +27,7 @@ low-bits x b h e =
     sym (mod-mod-pow x (b - 9) 9) ∙ rw (d, e)
 
 -- ---- the place x with bit 63
-module _ (x b n : ℕ) (least : 9 ≤ b) (small : n ≤ 67108864) (some : 0 < x) (inside : x + 2 ^ b ≤ n) (whole : x % 2 ^ b ≡ 0) where
+module _ (x b n : ℕ) (least : 9 ≤ b) (small : n ≤ mostLength) (some : 0 < x) (inside : x + 2 ^ b ≤ n) (whole : x % 2 ^ b ≡ 0) where
   place-is : place (9223372036854775808 + x) ≡ x
   unfolding place
   place-is =
@@ -91,7 +92,7 @@ plain-parts b n e h =
     let q = and-true t u (p .0) in
     record { high = ltb-true _ _ (q .0); inside = leb-true _ _ (q .1); whole = eqb-true _ _ (p .1) }
 
-module _ (b n e : ℕ) (least : 9 ≤ b) (small : n ≤ 67108864) (h : plain (2 ^ b) n e ≡ true) where
+module _ (b n e : ℕ) (least : 9 ≤ b) (small : n ≤ mostLength) (h : plain (2 ^ b) n e ≡ true) where
   joined : 9223372036854775808 + (e - 2 ^ 63) ≡ e
   joined = let p = plain-parts b n e h in omega arith
 

@@ -8,6 +8,7 @@ ghost use Rattle.endian.specs.Big.{be64};
 ghost use Rattle.qcow2_spec.specs.Entries.{place, goodPlace, goodL1, goodL2, compressed, zeroMark};
 ghost use Rattle.qcow2_spec.specs.Guest.{entryWay, entryGives};
 ghost use Rattle.qcow2_entry.specs.Plain.{plain};
+ghost use Rattle.qcow2_spec.specs.Header.{mostBits, mostLength};
 use qcow2_spec::Found;
 use qcow2_spec::Way;
 
@@ -20,7 +21,7 @@ pub fn place_of(e: u64) -> u64
 
 // Whether an entry's place and bit 63 go together.
 fn good_place(e: u64, n: u64, bits: u32) -> bool
-    requires { ⌜ bits ≤ 16 ⌝ }
+    requires { ⌜ bits ≤ mostBits ⌝ }
     ensures { λ r. ⌜ r ≡ goodPlace (2 ^ bits) n e ⌝ }
 {
     let p = place_of(e);
@@ -38,7 +39,7 @@ fn good_place(e: u64, n: u64, bits: u32) -> bool
 }
 
 pub fn good_l1(e: u64, n: u64, bits: u32) -> bool
-    requires { ⌜ bits ≤ 16 ⌝ }
+    requires { ⌜ bits ≤ mostBits ⌝ }
     ensures { λ r. ⌜ r ≡ goodL1 (2 ^ bits) n e ⌝ }
 {
     if e % 512 != 0 {
@@ -73,7 +74,7 @@ fn good_mark(e: u64, version: u32) -> bool
 }
 
 pub fn good_l2(e: u64, version: u32, n: u64, bits: u32) -> bool
-    requires { ⌜ bits ≤ 16 ⌝ }
+    requires { ⌜ bits ≤ mostBits ⌝ }
     ensures { λ r. ⌜ r ≡ goodL2 version (2 ^ bits) n e ⌝ }
 {
     if is_compressed(e) {
@@ -94,7 +95,7 @@ pub fn good_l2(e: u64, version: u32, n: u64, bits: u32) -> bool
 // Whether an entry is a place with bit 63 alone. Written over the whole number, so that the entry is one load and the first two tests
 // become one.
 pub fn is_plain(e: u64, n: u64, bits: u32) -> bool
-    requires { ⌜ (bits ≤ 16) × (2 ^ bits ≤ n) ⌝ }
+    requires { ⌜ (bits ≤ mostBits) × (2 ^ bits ≤ n) ⌝ }
     ensures { λ r. ⌜ r ≡ plain (2 ^ bits) n e ⌝ }
 {
     if e <= 9223372036854775808 {
@@ -109,7 +110,7 @@ pub fn is_plain(e: u64, n: u64, bits: u32) -> bool
 
 // The way that ends at entry i of an L2 table, which stands at an index of an image of n bytes.
 pub fn way_in(table: &[u8], i: usize, at: usize, version: u32, n: u64, bits: u32) -> Way
-    requires { ⌜ (bits ≤ 16) × ((8 * i + 8 ≤ length (now table)) × (at + length (now table) ≤ 67108864)) ⌝ }
+    requires { ⌜ (bits ≤ mostBits) × ((8 * i + 8 ≤ length (now table)) × (at + length (now table) ≤ mostLength)) ⌝ }
     ensures { λ r. ⌜ r ≡ entryWay version (2 ^ bits) n (at + 8 * i) (be64 (now (table .entry)) (8 * i)) ⌝ }
 {
     let e = endian::load64(table, 8 * i);
@@ -124,7 +125,7 @@ pub fn way_in(table: &[u8], i: usize, at: usize, version: u32, n: u64, bits: u32
 
 // What an entry gives for byte o of its cluster.
 pub fn gives(e: u64, o: u64) -> Found
-    requires { ⌜ o < 65536 ⌝ }
+    requires { ⌜ o < 2147483648 ⌝ }
     ensures { λ r. ⌜ r ≡ entryGives e o ⌝ }
 {
     if has_mark(e) {

@@ -10,7 +10,7 @@ use lib.ListN.{length, drop, length-drop}
 use lib.Seq.{length-take-le}
 use Rattle.choice.specs.Pick.{unless}
 use Rattle.endian.specs.Big.{part}
-use Rattle.qcow2_spec.specs.Header.{version, clusterSize, perTable}
+use Rattle.qcow2_spec.specs.Header.{mostBits, mostLength, version, clusterSize, perTable}
 use Rattle.qcow2_spec.specs.Entries.{place, goodPlace, goodL1, goodL2, compressed, zeroMark}
 use Rattle.qcow2_spec.specs.Guest.{l1EntryAt, l1Entry, entryWay, way, wayNumber, waysNumber}
 use Rattle.qcow2_spec.specs.Opened.{Opened}
@@ -29,7 +29,7 @@ pub easy-zero : (v C n at e : ℕ) → e ≡ 0 → wayNumber (entryWay v C n at 
 unfolding wayNumber entryWay goodL2 goodPlace place compressed zeroMark
 easy-zero v C n at e z = rw z
 
-pub easy-plain : (v b n at e : ℕ) → 9 ≤ b → n ≤ 67108864 → plain (2 ^ b) n e ≡ true → wayNumber (entryWay v (2 ^ b) n at e) ≡ 0
+pub easy-plain : (v b n at e : ℕ) → 9 ≤ b → n ≤ mostLength → plain (2 ^ b) n e ≡ true → wayNumber (entryWay v (2 ^ b) n at e) ≡ 0
 unfolding wayNumber
 easy-plain v b n at e l h p = ap wayNumber (plain-way b n e l h p v at)
 
@@ -133,8 +133,8 @@ module _ (g : Geometry) (s : List ℕ) (o : Opened g s) (guest k : ℕ) (l : gue
 
   -- what is asked of the entries of the L2 table at t, as a part of the image
   pub table-asks : (t i : ℕ) → t + clusterSize s ≤ length s → i ≡ guest % 2 ^ (g .bits - 3)
-      → (((9 ≤ g .bits) × (g .bits ≤ 16)) × ((2 ^ g .bits ≤ length s) × (length s ≤ 67108864)))
-      × (((i ≤ i + k) × (8 * (i + k) ≤ length (part s t (2 ^ g .bits)))) × (t + length (part s t (2 ^ g .bits)) ≤ 67108864))
+      → (((9 ≤ g .bits) × (g .bits ≤ mostBits)) × ((2 ^ g .bits ≤ length s) × (length s ≤ mostLength)))
+      × (((i ≤ i + k) × (8 * (i + k) ≤ length (part s t (2 ^ g .bits)))) × (t + length (part s t (2 ^ g .bits)) ≤ mostLength))
   table-asks t i h d =
       let f = facts s (o .accepted) in
       let n : length (part s t (2 ^ g .bits)) ≡ 2 ^ g .bits = length-take-le (2 ^ g .bits) (drop t s) (simp length-drop (omega (arith, o .is-cluster))) in

@@ -2,7 +2,7 @@
 ghost use mathlib.Core.Path.{_≡_};
 ghost use Prim.Native.Nat.{_+_, _-_, _/_, _%_, _^_, _<_, _≤_, min};
 ghost use lib.ListN.{length};
-ghost use Rattle.qcow2_spec.specs.Header.{clusterSize, diskSize, perTable, l1Size};
+ghost use Rattle.qcow2_spec.specs.Header.{mostBits, clusterSize, diskSize, perTable, l1Size};
 ghost use Rattle.qcow2_spec.specs.Guest.{l1Entry, l2Way, way, located, translate};
 ghost use Rattle.qcow2_spec.specs.Opened.{Opened};
 use qcow2_spec::Found;
@@ -14,7 +14,7 @@ pub mod reading;
 
 // How much of what is left, from x on, comes before the next multiple of a power of two.
 pub(crate) fn piece(x: u64, left: usize, bits: u32) -> usize
-    requires { ⌜ bits ≤ 16 ⌝ }
+    requires { ⌜ bits ≤ mostBits ⌝ }
     ensures { λ r. ⌜ r ≡ min (2 ^ bits - x % 2 ^ bits) left ⌝ }
 {
     let room = power::power(bits) - power::rest(x, bits);

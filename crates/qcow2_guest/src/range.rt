@@ -3,7 +3,7 @@ ghost use mathlib.Core.Path.{_≡_};
 ghost use Prim.Native.Nat.{ℕ, _+_, _-_, _*_, _/_, _%_, _^_, _<_, _≤_};
 ghost use mathlib.Core.Bool.{true};
 ghost use lib.ListN.{length};
-ghost use Rattle.qcow2_spec.specs.Header.{perTable, l1Size};
+ghost use Rattle.qcow2_spec.specs.Header.{mostBits, mostLength, mostSize, perTable, l1Size};
 ghost use Rattle.qcow2_spec.specs.Guest.{entryWay, wayNumber, waysNumber, touched, readNumber};
 ghost use Rattle.qcow2_spec.specs.Opened.{Opened};
 ghost use Rattle.qcow2_guest.specs.Rows.{slot, numbers};
@@ -23,7 +23,7 @@ fn number(w: Way) -> u8
 
 // Whether an L2 entry is plain or empty, and so good in every version.
 fn is_easy(e: u64, n: u64, bits: u32) -> bool
-    requires { ⌜ ((9 ≤ bits) × (bits ≤ 16)) × ((2 ^ bits ≤ n) × (n ≤ 67108864)) ⌝ }
+    requires { ⌜ ((9 ≤ bits) × (bits ≤ mostBits)) × ((2 ^ bits ≤ n) × (n ≤ mostLength)) ⌝ }
     ensures { λ r. ⌜ (r ≡ true → (v : ℕ) → (at : ℕ) → wayNumber (entryWay v (2 ^ bits) n at e) ≡ 0) ⌝ }
 {
     if e == 0 {
@@ -35,7 +35,7 @@ fn is_easy(e: u64, n: u64, bits: u32) -> bool
 // The first of the entries from an index to an end that is not easy, or the end. Apart from the loop over the others, so that an entry
 // is one load here.
 fn easy_end(table: &[u8], from: usize, end: usize, n: u64, bits: u32) -> usize
-    requires { ⌜ (((9 ≤ bits) × (bits ≤ 16)) × ((2 ^ bits ≤ n) × (n ≤ 67108864))) × ((from ≤ end) × (8 * end ≤ length (now table))) ⌝ }
+    requires { ⌜ (((9 ≤ bits) × (bits ≤ mostBits)) × ((2 ^ bits ≤ n) × (n ≤ mostLength))) × ((from ≤ end) × (8 * end ≤ length (now table))) ⌝ }
     ensures { λ r. ⌜ ((from ≤ r) × (r ≤ end)) × ((v : ℕ) → (at : ℕ) → numbers (slot v (2 ^ bits) n at (now (table .entry))) from (end - from) ≡ numbers (slot v (2 ^ bits) n at (now (table .entry))) r (end - r)) ⌝ }
 {
     let mut i = from;
@@ -59,7 +59,7 @@ fn table_number(
     n: u64,
     bits: u32,
 ) -> u8
-    requires { ⌜ (((9 ≤ bits) × (bits ≤ 16)) × ((2 ^ bits ≤ n) × (n ≤ 67108864))) × (((from ≤ end) × (8 * end ≤ length (now table))) × (at + length (now table) ≤ 67108864)) ⌝ }
+    requires { ⌜ (((9 ≤ bits) × (bits ≤ mostBits)) × ((2 ^ bits ≤ n) × (n ≤ mostLength))) × (((from ≤ end) × (8 * end ≤ length (now table))) × (at + length (now table) ≤ mostLength)) ⌝ }
     ensures { λ r. ⌜ r ≡ numbers (slot version (2 ^ bits) n at (now (table .entry))) from (end - from) ⌝ }
 {
     let mut i = easy_end(table, from, end, n, bits);
@@ -94,7 +94,7 @@ fn row_number(image: &[u8], g: Geometry, guest: u64, k: usize) -> u8
 
 // The number of the first bad way among the k guest clusters from one on, or 0. One L1 entry at a time.
 fn ways_number(image: &[u8], g: Geometry, guest: u64, k: u64) -> u8
-    requires { ⌜ (Opened g (now image)) × ((guest + k ≤ 1099511627776) × (guest + k ≤ l1Size (now image) * perTable (now image))) ⌝ }
+    requires { ⌜ (Opened g (now image)) × ((guest + k ≤ mostSize) × (guest + k ≤ l1Size (now image) * perTable (now image))) ⌝ }
     ensures { λ r. ⌜ r ≡ waysNumber (now (image .entry)) guest k ⌝ }
 {
     let mut i = 0;
@@ -111,7 +111,7 @@ fn ways_number(image: &[u8], g: Geometry, guest: u64, k: u64) -> u8
 
 // How many guest clusters a range touches.
 fn touched_count(x: u64, len: usize, bits: u32) -> u64
-    requires { ⌜ (bits ≤ 16) × (x + len ≤ 1099511627776) ⌝ }
+    requires { ⌜ (bits ≤ mostBits) × (x + len ≤ mostSize) ⌝ }
     ensures { λ r. ⌜ r ≡ touched (2 ^ bits) x len ⌝ }
 {
     if len == 0 {

@@ -3,7 +3,7 @@ ghost use mathlib.Core.Path.{_≡_};
 ghost use Prim.Native.Nat.{_+_, _-_, _/_, _%_, _^_, _<_, _≤_, min};
 ghost use mathlib.Core.List.{_++_};
 ghost use lib.ListN.{length, take, drop};
-ghost use Rattle.qcow2_spec.specs.Header.{diskSize, perTable, l1Size};
+ghost use Rattle.qcow2_spec.specs.Header.{mostBits, mostLength, diskSize, perTable, l1Size};
 ghost use Rattle.qcow2_spec.specs.Guest.{guestBytes, readNumber, readInto, inPlace};
 ghost use Rattle.qcow2_spec.specs.Opened.{Opened};
 ghost use Rattle.qcow2_guest.specs.Rows.{Below, tableOf, rowLeft};
@@ -12,7 +12,7 @@ use qcow2_spec::Geometry;
 
 // The host offset that a plain entry gives for guest offset x. By the cluster's number, so that the entry stays one number.
 fn host_at(e: u64, x: u64, bits: u32) -> usize
-    requires { ⌜ (bits ≤ 16) × ((9223372036854775808 < e) × ((e - 9223372036854775808 ≤ 67108864) × ((e - 9223372036854775808) % 2 ^ bits ≡ 0))) ⌝ }
+    requires { ⌜ (bits ≤ mostBits) × ((9223372036854775808 < e) × ((e - 9223372036854775808 ≤ mostLength) × ((e - 9223372036854775808) % 2 ^ bits ≡ 0))) ⌝ }
     ensures { λ r. ⌜ r ≡ e - 9223372036854775808 + x % 2 ^ bits ⌝ }
 {
     let c = power::quotient(e - 9223372036854775808, bits);
@@ -86,7 +86,7 @@ fn read_row(image: &[u8], g: Geometry, x: u64, part: &mut [u8])
 
 // How many of the bytes that are left have the L1 entry of x.
 fn row_left(x: u64, left: usize, bits: u32) -> usize
-    requires { ⌜ (3 ≤ bits) × (bits ≤ 16) ⌝ }
+    requires { ⌜ (3 ≤ bits) × (bits ≤ mostBits) ⌝ }
     ensures { λ r. ⌜ r ≡ min (rowLeft (2 ^ bits) (2 ^ (bits - 3)) x) left ⌝ }
 {
     let entries = power::power(bits - 3) - power::rest(power::quotient(x, bits), bits - 3);

@@ -65,19 +65,19 @@ from1 s = if ltb (length s) leastLength then Refused 1 else from2 s
 pub record Known (s : List ℕ) : Type 0 where
   pub long : 512 ≤ length s
   pub low : 9 ≤ clusterBits s
-  pub high : clusterBits s ≤ 16
+  pub high : clusterBits s ≤ mostBits
 
 -- 1 to 5
 pub record Sized (s : List ℕ) : Type 0 where
   pub known : Known s
-  pub short : length s ≤ 67108864
+  pub short : length s ≤ mostLength
   pub room : clusterSize s ≤ length s
 
 -- 1 to 7, with what the header gives
 pub record Read (g : Geometry) (s : List ℕ) : Type 0 where
   pub is : g ≡ geometry s
   pub low : 9 ≤ g .bits
-  pub high : g .bits ≤ 16
+  pub high : g .bits ≤ mostBits
   pub room : 2 ^ g .bits ≤ length s
   pub few : g .rows < 4294967296
   pub brief : g .span < 4294967296

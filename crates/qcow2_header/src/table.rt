@@ -4,12 +4,12 @@ ghost use Prim.Native.Nat.{_*_, _^_, _≤_};
 ghost use lib.ListN.{length};
 ghost use Rattle.choice.specs.Pick.{all};
 ghost use Rattle.endian.specs.Big.{entries};
-ghost use Rattle.qcow2_spec.specs.Header.{goodBlock, goodTable};
+ghost use Rattle.qcow2_spec.specs.Header.{mostBits, goodBlock, goodTable};
 
 // Whether an entry names a block in an image of n bytes. Bits 0 to 8 are zero in a multiple of a cluster size. What does not depend
 // on the entry leaves the loop, and the first two tests become one.
 fn names_block(e: u64, n: u64, bits: u32) -> bool
-    requires { ⌜ ((9 ≤ bits) × (bits ≤ 16)) × (2 ^ bits ≤ n) ⌝ }
+    requires { ⌜ ((9 ≤ bits) × (bits ≤ mostBits)) × (2 ^ bits ≤ n) ⌝ }
     ensures { λ r. ⌜ r ≡ goodBlock (2 ^ bits) n e ⌝ }
 {
     if e == 0 {
@@ -23,7 +23,7 @@ fn names_block(e: u64, n: u64, bits: u32) -> bool
 
 // Whether each of the first entries of a table names a block.
 fn all_named(table: &[u8], count: usize, n: u64, bits: u32) -> bool
-    requires { ⌜ (((9 ≤ bits) × (bits ≤ 16)) × (2 ^ bits ≤ n)) × (8 * count ≤ length (now table)) ⌝ }
+    requires { ⌜ (((9 ≤ bits) × (bits ≤ mostBits)) × (2 ^ bits ≤ n)) × (8 * count ≤ length (now table)) ⌝ }
     ensures { λ r. ⌜ r ≡ all (goodBlock (2 ^ bits) n) (entries count (now (table .entry))) ⌝ }
 {
     let mut i = 0;
@@ -39,7 +39,7 @@ fn all_named(table: &[u8], count: usize, n: u64, bits: u32) -> bool
 
 // Whether the first entries of a table name blocks, and the later ones are 0.
 pub(crate) fn good(table: &[u8], count: usize, blocks: usize, n: u64, bits: u32) -> bool
-    requires { ⌜ (((9 ≤ bits) × (bits ≤ 16)) × (2 ^ bits ≤ n)) × ((blocks ≤ count) × (8 * count ≤ length (now table))) ⌝ }
+    requires { ⌜ (((9 ≤ bits) × (bits ≤ mostBits)) × (2 ^ bits ≤ n)) × ((blocks ≤ count) × (8 * count ≤ length (now table))) ⌝ }
     ensures { λ r. ⌜ r ≡ goodTable (2 ^ bits) n blocks (entries count (now (table .entry))) ⌝ }
 {
     if all_named(table, blocks, n, bits) {

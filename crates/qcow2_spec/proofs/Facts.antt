@@ -13,7 +13,7 @@ use borrow.Author.Tests.{ltb-false, leb-true, eqb-true, eqb-false, not-true, not
 use Rattle.choice.specs.Pick.{if_then_else_, unless, all, ceilDiv}
 use Rattle.choice.proofs.Tests.{if-zero, and-true, or-false, or-true}
 use Rattle.endian.specs.Big.{be32, be64, entries}
-use Rattle.qcow2_spec.specs.Header.{version, clusterSize, clusters, diskSize, l1Size, l1At, tableAt, tableClusters, perBlock, blocks, perTable, table, blockAt, goodBlock, goodTable, unsupported, tooBig, oddSize, badTables, headerNumber, tableNumber, judge}
+use Rattle.qcow2_spec.specs.Header.{mostBits, mostL1, mostLength, mostSize, version, clusterSize, clusters, diskSize, l1Size, l1At, tableAt, tableClusters, perBlock, blocks, perTable, table, blockAt, goodBlock, goodTable, unsupported, tooBig, oddSize, badTables, headerNumber, tableNumber, judge}
 use Rattle.qcow2_spec.specs.Entries.{place, goodPlace, goodL1, goodL2, compressed, zeroMark}
 use Rattle.qcow2_spec.specs.Counts.{countAt}
 use Rattle.endian.proofs.Entries.{be64-drop, take-entries}
@@ -53,11 +53,11 @@ good-place2 v C n e h =
 pub record Facts (s : List ℕ) : Type 0 where
   pub long : 512 ≤ length s
   pub low : 9 ≤ be32 s 20
-  pub high : be32 s 20 ≤ 16
+  pub high : be32 s 20 ≤ mostBits
   pub whole : length s % clusterSize s ≡ 0
-  pub small : length s ≤ 67108864
-  pub far : diskSize s ≤ 2 ^ 40
-  pub few : l1Size s ≤ 4096
+  pub small : length s ≤ mostLength
+  pub far : diskSize s ≤ mostSize
+  pub few : l1Size s ≤ mostL1
   pub reach : diskSize s ≤ l1Size s * perTable s * clusterSize s
   pub l1-whole : l1At s % clusterSize s ≡ 0
   pub table-whole : tableAt s % clusterSize s ≡ 0
@@ -89,8 +89,8 @@ facts s h0 =
     let a = if-zero (ltb n 512) _ _ e in
     let b = if-zero (not (eqb (be32 s 0) 0x514649FB)) _ _ (a .1) in
     let c = if-zero (not (eqb (version s) 2 || eqb (version s) 3)) _ _ (b .1) in
-    let d = if-zero (ltb (be32 s 20) 9 || ltb 16 (be32 s 20)) _ _ (c .1) in
-    let f = if-zero (not (eqb (n % C) 0) || ltb 67108864 n) _ _ (d .1) in
+    let d = if-zero (ltb (be32 s 20) 9 || ltb mostBits (be32 s 20)) _ _ (c .1) in
+    let f = if-zero (not (eqb (n % C) 0) || ltb mostLength n) _ _ (d .1) in
     let g = if-zero (unsupported s) _ _ (f .1) in
     let h = if-zero (eqb (version s) 3 && not (eqb (be64 s 72) 0)) _ _ (g .1) in
     let i = if-zero (tooBig s) _ _ (h .1) in
@@ -98,8 +98,8 @@ facts s h0 =
     let j = if-zero (badTables s) _ _ (m .1) in
     let d1 = or-false (ltb (be32 s 20) 9) _ (d .0) in
     let f1 = or-false (not (eqb (n % C) 0)) _ (f .0) in
-    let i1 = or-false (ltb (2 ^ 40) (diskSize s) || ltb 4096 (l1Size s)) _ (i .0) in
-    let i2 = or-false (ltb (2 ^ 40) (diskSize s)) (ltb 4096 (l1Size s)) (i1 .0) in
+    let i1 = or-false (ltb mostSize (diskSize s) || ltb mostL1 (l1Size s)) _ (i .0) in
+    let i2 = or-false (ltb mostSize (diskSize s)) (ltb mostL1 (l1Size s)) (i1 .0) in
     let t1 = not (eqb (l1At s % C) 0) in
     let t2 = not (eqb (tableAt s % C) 0) in
     let t3 = ltb n (l1At s + 8 * l1Size s) in

@@ -12,7 +12,7 @@ use borrow.Author.Tests.{le-leb, eq-eqb, ne-eqb}
 use Rattle.clusters.proofs.Meta.{Geo, GeoOk, Codec, Laws}
 use Rattle.choice.specs.Pick.{ceilDiv}
 use Rattle.endian.specs.Big.{be32}
-use Rattle.qcow2_spec.specs.Header.{version, clusterSize, clusters, diskSize, l1Size, l1At, tableAt, tableClusters, perBlock, blocks, perTable}
+use Rattle.qcow2_spec.specs.Header.{mostLength, version, clusterSize, clusters, diskSize, l1Size, l1At, tableAt, tableClusters, perBlock, blocks, perTable}
 use Rattle.qcow2_spec.specs.Entries.{place, goodPlace, goodL1, goodL2, compressed, zeroMark, newEntry}
 use Rattle.qcow2_spec.proofs.Facts.{Facts, placed, good-place1, good-place2, up-le, le-up, cover-law, power, c-pos, c-8, c-2, n-whole, n-pos, h-pos, e-pos, c-big}
 
@@ -48,7 +48,7 @@ abbrev pub code : List ℕ → Codec
 code s = codecOf (version s) (clusterSize s) (length s)
 
 -- ---- the entries' laws, for a cluster size that is a multiple of 512
-module _ (v C N n D : ℕ) (c512 : C ≡ 512 * D) (dpos : 0 < D) (npos : 0 < N) (whole : N * C ≡ n) (big : n ≤ 67108864) where
+module _ (v C N n D : ℕ) (c512 : C ≡ 512 * D) (dpos : 0 < D) (npos : 0 < N) (whole : N * C ≡ n) (big : n ≤ mostLength) where
   cpos : 0 < C
   cpos = omega arith
 

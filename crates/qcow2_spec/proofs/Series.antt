@@ -3,8 +3,7 @@ use Prim.Native.Nat.{ℕ, zero, suc, _+_, _-_, _/_, _≤_, _<_}
 use native.Mathlib.Nat.{le-refl}
 use native.Mathlib.Omega.{arith}
 use mathlib.Core.Path.{_≡_, refl, sym, ap, ap₂, _∙_, subst}
-use mathlib.Core.Logic.{_⊎_, inl, inr}
-use mathlib.Core.Bool.{Bool, true, false, _&&_}
+use mathlib.Core.Bool.{Bool, false, _&&_}
 use mathlib.Core.List.{List, [], _∷_}
 use lib.Dec.{leb, ltb, eqb}
 use lib.ListN.{length, getD}
@@ -25,7 +24,7 @@ use Rattle.units.specs.declared.Outcome.{Outcome}
 use Rattle.units.specs.declared.Outcome.the-variants.{Finished, Stopped, Refused}
 use Rattle.qcow2_spec.specs.declared.Verdict.the-variants.{Refused as NotChecked}
 use Rattle.units.specs.Plan.{storesCount}
-use Rattle.qcow2_spec.specs.Disk.{Request, write, discard, repair, planOf, finished, Same, Mixed, Fed}
+use Rattle.qcow2_spec.specs.Disk.{Request, write, discard, repair, planOf, finished, Same, Fed}
 use Rattle.qcow2_spec.specs.Rough.{roughly, afterRough}
 use Rattle.qcow2_spec.specs.Series.{Bytes, Healthy, Agrees, Mended, MendedBy, Call, BytesOf, AllBytes, left, leftRough, ends, Step, Holds, RoughHolds, Demand3, RoughDemand3}
 use Rattle.choice.proofs.Tests.{if-no, if-elim, false-or}

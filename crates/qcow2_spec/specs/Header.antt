@@ -16,7 +16,7 @@ leastLength = 512
 
 -- the bytes of the longest image
 abbrev pub mostLength : ℕ
-mostLength = 67108864
+mostLength = 1073741824
 
 -- cluster_bits at its least
 abbrev pub leastBits : ℕ
@@ -24,7 +24,7 @@ leastBits = 9
 
 -- cluster_bits at its most
 abbrev pub mostBits : ℕ
-mostBits = 16
+mostBits = 21
 
 -- the bytes of the largest disk
 abbrev pub mostSize : ℕ
@@ -36,7 +36,7 @@ sector = 512
 
 -- the entries of the longest L1 table
 abbrev pub mostL1 : ℕ
-mostL1 = 4096
+mostL1 = 65536
 
 -- ---- the fields, at the places of the published format
 -- the four bytes that a qcow2 image starts with

@@ -6,7 +6,7 @@ use mathlib.Core.List.{List}
 use lib.ListN.{length}
 use Rattle.choice.specs.Pick.{unless}
 use Rattle.endian.specs.Big.{be64}
-use Rattle.qcow2_spec.specs.Header.{version, clusterBits, clusterSize, clusters, diskSize, l1Size, l1At, tableAt, tableClusters, blocks, perTable, judge}
+use Rattle.qcow2_spec.specs.Header.{mostBits, mostL1, mostLength, mostSize, version, clusterBits, clusterSize, clusters, diskSize, l1Size, l1At, tableAt, tableClusters, blocks, perTable, judge}
 use Rattle.qcow2_spec.specs.declared.Geometry.{Geometry}
 use Rattle.qcow2_spec.specs.declared.Judged.{Judged}
 use Rattle.qcow2_spec.specs.declared.Judged.the-variants.{Refused, Accepted}
@@ -46,11 +46,11 @@ pub record Opened (g : Geometry) (s : List ℕ) : Type 0 where
   pub is-cluster : 2 ^ g .bits ≡ clusterSize s
   pub is-per : 2 ^ (g .bits - 3) ≡ perTable s
   pub low : 9 ≤ g .bits
-  pub high : g .bits ≤ 16
+  pub high : g .bits ≤ mostBits
   pub long : 512 ≤ length s
-  pub short : length s ≤ 67108864
-  pub far : diskSize s ≤ 1099511627776
-  pub few : l1Size s ≤ 4096
+  pub short : length s ≤ mostLength
+  pub far : diskSize s ≤ mostSize
+  pub few : l1Size s ≤ mostL1
   pub eight : clusterSize s ≡ 8 * perTable s
   pub whole : length s ≡ g .clusters * 2 ^ g .bits
   pub l1-whole : g .l1 % 2 ^ g .bits ≡ 0

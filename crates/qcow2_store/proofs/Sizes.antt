@@ -7,7 +7,7 @@ use mathlib.Core.List.{List}
 use lib.Pow.{pow-pos, pow-mono, pow-add}
 use lib.ListN.{length}
 use Rattle.endian.specs.Big.{be64}
-use Rattle.qcow2_spec.specs.Header.{clusters, perBlock, blocks, blockAt}
+use Rattle.qcow2_spec.specs.Header.{mostBits, mostLength, clusters, perBlock, blocks, blockAt}
 use Rattle.qcow2_spec.specs.Counts.{countAt}
 use Rattle.qcow2_spec.specs.Opened.{Opened}
 use Rattle.qcow2_spec.specs.declared.Geometry.{Geometry}
@@ -19,8 +19,8 @@ pub record Sizes (g : Geometry) (s : List ℕ) : Type 0 where
   pub half : perBlock s ≡ 2 ^ (g .bits - 1)
   pub pair : 2 * 2 ^ (g .bits - 1) ≡ 2 ^ g .bits
   pub some : 0 < 2 ^ (g .bits - 1)
-  pub most : 2 ^ g .bits ≤ 65536
-  pub few : g .clusters ≤ 67108864
+  pub most : 2 ^ g .bits ≤ 2 ^ mostBits
+  pub few : g .clusters ≤ mostLength
   pub all : Facts s
 
 pub halves : (b : ℕ) → 1 ≤ b → 2 * 2 ^ (b - 1) ≡ 2 ^ b
@@ -33,7 +33,7 @@ module _ (g : Geometry) (s : List ℕ) (o : Opened g s) where
   sizes =
       let f = facts s (o .accepted) in
       let p = halves (g .bits) (omega (arith, o .low)) in
-      let m : 2 ^ g .bits ≤ 2 ^ 16 = pow-mono {j = 16} (o .high) in
+      let m : 2 ^ g .bits ≤ 2 ^ mostBits = pow-mono (o .high) in
       record {
         half = omega (arith, c-2 s f, o .is-cluster, p);
         pair = p;

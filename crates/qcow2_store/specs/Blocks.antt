@@ -6,13 +6,13 @@ use mathlib.Core.List.{List}
 use lib.Dec.{eqb}
 use lib.ListN.{length, getD}
 use Rattle.endian.specs.Big.{be16, be64}
-use Rattle.qcow2_spec.specs.Header.{blockAt}
+use Rattle.qcow2_spec.specs.Header.{mostBits, mostLength, blockAt}
 use Rattle.qcow2_spec.specs.declared.Geometry.{Geometry}
 
 -- the refcount table of s names block b, which lies in the image
 pub record Named (g : Geometry) (s : List ℕ) (b : ℕ) : Type 0 where
   pub entered : g .table + 8 * b + 8 ≤ length s
-  pub short : length s ≤ 67108864
+  pub short : length s ≤ mostLength
   pub inside : be64 s (g .table + 8 * b) + 2 ^ g .bits ≤ length s
 
 -- the place of the refcount table's entry for cluster k's block
@@ -26,7 +26,7 @@ countPlace g s k = be64 s (tablePlace g k) + 2 * (k % 2 ^ (g .bits - 1))
 -- it can be found
 pub record Reach (g : Geometry) (s : List ℕ) (k : ℕ) : Type 0 where
   pub low : 1 ≤ g .bits
-  pub high : g .bits ≤ 16
+  pub high : g .bits ≤ mostBits
   pub named : Named g s (k / 2 ^ (g .bits - 1))
 
 -- two bytes as a number, the low one first: a count with its bytes swapped

@@ -9,7 +9,7 @@ use lib.ListN.{length, getD, take}
 use Rattle.choice.specs.Pick.{if_then_else_}
 use Rattle.endian.specs.Big.{be16}
 use Rattle.units.specs.Units.{UnitStore, count}
-use Rattle.qcow2_spec.specs.Header.{clusters, blocks, tableAt}
+use Rattle.qcow2_spec.specs.Header.{mostBits, mostLength, clusters, blocks, tableAt}
 use Rattle.qcow2_spec.specs.Counts.{countAt}
 use Rattle.qcow2_spec.specs.References.{figuresOf}
 use Rattle.qcow2_spec.specs.Check.{repairUnits}
@@ -37,9 +37,9 @@ pub record Leaking (g : Geometry) (s refs : List ℕ) : Type 0 where
 
 -- what setting the counts needs of an image: by its refcount table they lie in it, apart from each other and from that table
 pub record Laid (g : Geometry) (s : List ℕ) : Type 0 where
-  pub few : g .clusters ≤ 67108864
+  pub few : g .clusters ≤ mostLength
   pub low : 1 ≤ g .bits
-  pub high : g .bits ≤ 16
+  pub high : g .bits ≤ mostBits
   pub reach : (k : ℕ) → k < g .clusters → Reach g s k
   pub counts : (j k : ℕ) → j < k → k < g .clusters → (countPlace g s j + 2 ≤ countPlace g s k) ⊎ (countPlace g s k + 2 ≤ countPlace g s j)
   pub table : (j k : ℕ) → j < g .clusters → k < g .clusters → (countPlace g s j + 2 ≤ tablePlace g k) ⊎ (tablePlace g k + 8 ≤ countPlace g s j)

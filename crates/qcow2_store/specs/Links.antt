@@ -4,7 +4,7 @@ use Prim.Native.Nat.{ℕ, _+_, _*_, _%_, _≤_}
 use mathlib.Core.List.{List, [], _∷_, _++_}
 use lib.ListN.{length, replicate}
 use Rattle.units.specs.Units.{UnitStore, count, entry, fill, cluster}
-use Rattle.qcow2_spec.specs.Header.{clusterSize, perTable}
+use Rattle.qcow2_spec.specs.Header.{mostLength, clusterSize, perTable}
 use Rattle.qcow2_spec.specs.Entries.{newEntry}
 use Rattle.qcow2_spec.specs.Counts.{countAt}
 use Rattle.qcow2_spec.specs.Guest.{l1EntryAt}
@@ -26,7 +26,7 @@ pub record Filled (n a p c o : ℕ) (d : List ℕ) : Type 0 where
   pub entered : a + 8 ≤ n
   pub inside : p + c ≤ n
   pub fits : o + length d ≤ c
-  pub short : n ≤ 67108864
+  pub short : n ≤ mostLength
 
 -- the places of a write that takes cluster t as an L2 table and cluster k for the data
 unfoldable pub places : List ℕ → (g t k : ℕ) → Places
@@ -48,7 +48,7 @@ pub record Linked (n : ℕ) (p : Places) (c : ℕ) : Type 0 where
   pub inside : p .place + c ≤ n
   pub entered : p .slot + 8 ≤ n
   pub linked : p .link + 8 ≤ n
-  pub short : n ≤ 67108864
+  pub short : n ≤ mostLength
 
 unfoldable pub tableUnits : Places → (c o : ℕ) → List ℕ → List UnitStore
 tableUnits p c o d =

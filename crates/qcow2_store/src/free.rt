@@ -7,20 +7,21 @@ ghost use Rattle.endian.specs.Big.{be64};
 ghost use Rattle.qcow2_spec.specs.Counts.{countAt, freeAt, freeFrom};
 ghost use Rattle.qcow2_spec.specs.Opened.{Opened};
 ghost use Rattle.qcow2_store.specs.Blocks.{Named, Reach, countPlace, zeroCount, zeroIn};
+ghost use Rattle.qcow2_spec.specs.Header.{mostBits};
 use crate::groups;
 use qcow2_spec::Geometry;
 
 // 2 to the power bits: the bytes of a cluster.
 pub fn bytes_of(bits: u32) -> usize
-    requires { ⌜ bits ≤ 16 ⌝ }
-    ensures { λ r. ⌜ (r ≡ 2 ^ bits) × ((1 ≤ r) × (r ≤ 65536)) ⌝ }
+    requires { ⌜ bits ≤ mostBits ⌝ }
+    ensures { λ r. ⌜ (r ≡ 2 ^ bits) × ((1 ≤ r) × (r ≤ 2 ^ mostBits)) ⌝ }
 {
     power::power(bits) as usize
 }
 
 // The refcount block of cluster k. A block has half as many counts as a cluster has bytes.
 pub fn block_of(k: usize, bits: u32) -> usize
-    requires { ⌜ (1 ≤ bits) × (bits ≤ 16) ⌝ }
+    requires { ⌜ (1 ≤ bits) × (bits ≤ mostBits) ⌝ }
     ensures { λ r. ⌜ r ≡ k / 2 ^ (bits - 1) ⌝ }
 {
     power::quotient(k as u64, bits - 1) as usize
@@ -28,7 +29,7 @@ pub fn block_of(k: usize, bits: u32) -> usize
 
 // The index of its count there.
 pub fn index_of(k: usize, bits: u32) -> usize
-    requires { ⌜ (1 ≤ bits) × (bits ≤ 16) ⌝ }
+    requires { ⌜ (1 ≤ bits) × (bits ≤ mostBits) ⌝ }
     ensures { λ r. ⌜ (r ≡ k % 2 ^ (bits - 1)) × (r < 2 ^ (bits - 1)) ⌝ }
 {
     power::rest(k as u64, bits - 1) as usize
@@ -115,7 +116,7 @@ fn free_in(image: &[u8], g: Geometry, b: usize, j: usize, end: usize) -> usize
 
 // How many clusters there are from i on whose counts stand in one block.
 pub fn run_of(g: Geometry, i: usize) -> usize
-    requires { ⌜ ((1 ≤ g .bits) × (g .bits ≤ 16)) × (i < g .clusters) ⌝ }
+    requires { ⌜ ((1 ≤ g .bits) × (g .bits ≤ mostBits)) × (i < g .clusters) ⌝ }
     ensures { λ r. ⌜ ((1 ≤ r) × (i + r ≤ g .clusters)) × (i % 2 ^ (g .bits - 1) + r ≤ 2 ^ (g .bits - 1)) ⌝ }
 {
     let m = bytes_of(g.bits - 1) - index_of(i, g.bits);

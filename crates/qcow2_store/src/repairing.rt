@@ -1,12 +1,12 @@
 // A repair: each count that differs from the scratch's figure is set to it, rising by cluster. The counts of a leaking image lie apart from
 // each other, from the refcount table and from the header, so that what is read on the way is what stood there on entry.
 ghost use mathlib.Core.Path.{_≡_};
-ghost use Prim.Native.Nat.{_+_, _-_, _*_, _%_, _^_, _≤_};
+ghost use Prim.Native.Nat.{_+_, _-_, _*_, _%_, _^_, _≤_, _<_};
 ghost use mathlib.Core.List.{_++_};
 ghost use lib.ListN.{length, take};
 ghost use Rattle.units.specs.Units.{applyAll};
 ghost use Rattle.units.specs.Plan.{units as planned, Done};
-ghost use Rattle.qcow2_spec.specs.Header.{clusters};
+ghost use Rattle.qcow2_spec.specs.Header.{mostBits, mostLength, clusters};
 ghost use Rattle.qcow2_spec.specs.Store.{clearUnits, clearing};
 ghost use Rattle.qcow2_spec.specs.References.{figuresOf};
 ghost use Rattle.qcow2_spec.specs.Check.{repairUnits, verdict, verdictPlan};
@@ -22,7 +22,7 @@ use units::Outcome;
 
 // The count at a place is to be want. Returns the units of the repair so far, of which n came before; those past the allowance are only counted.
 fn repair_count(image: &mut [u8], at: usize, want: u16, n: usize, allowance: usize) -> usize
-    requires { ⌜ (at + 2 ≤ length (now image)) × (n ≤ 67108864) ⌝ }
+    requires { ⌜ (at + 2 ≤ length (now image)) × (n ≤ mostLength) ⌝ }
     ensures { λ r. ⌜ (r ≡ n + length (fix (now (image .entry)) at want)) × (now (image .exit) ≡ applyAll (take (allowance - n) (fix (now (image .entry)) at want)) (now (image .entry))) ⌝ }
 {
     if endian::load16(image, at) == want {
@@ -37,7 +37,7 @@ fn repair_count(image: &mut [u8], at: usize, want: u16, n: usize, allowance: usi
 
 // The counts from a place on are to be refs, one after another.
 fn repair_each(image: &mut [u8], at: usize, refs: &[u8], n: usize, allowance: usize) -> usize
-    requires { ⌜ (at + 2 * length (now refs) ≤ length (now image)) × ((length (now image) ≤ 67108864) × (n + length (now refs) ≤ 67108864)) ⌝ }
+    requires { ⌜ (at + 2 * length (now refs) ≤ length (now image)) × ((length (now image) ≤ mostLength) × (n + length (now refs) ≤ mostLength)) ⌝ }
     ensures { λ r. ⌜ (r ≡ n + length (fixes (now (image .entry)) at (now (refs .entry)) (length (now (refs .entry))))) × (now (image .exit) ≡ applyAll (take (allowance - n) (fixes (now (image .entry)) at (now (refs .entry)) (length (now (refs .entry))))) (now (image .entry))) ⌝ }
 {
     let mut spent = n;
@@ -51,7 +51,7 @@ fn repair_each(image: &mut [u8], at: usize, refs: &[u8], n: usize, allowance: us
 
 // The counts from a place on are to be refs: all of them at once, unless the allowance ends among them.
 fn repair_run(image: &mut [u8], at: usize, refs: &[u8], n: usize, allowance: usize) -> usize
-    requires { ⌜ ((at + 2 * length (now refs) ≤ length (now image)) × ((length (now image) ≤ 67108864) × (n + length (now refs) ≤ 67108864))) × (length (now refs) ≤ 32768) ⌝ }
+    requires { ⌜ ((at + 2 * length (now refs) ≤ length (now image)) × ((length (now image) ≤ mostLength) × (n + length (now refs) ≤ mostLength))) × (length (now refs) ≤ 32768) ⌝ }
     ensures { λ r. ⌜ (r ≡ n + length (fixes (now (image .entry)) at (now (refs .entry)) (length (now (refs .entry))))) × (now (image .exit) ≡ applyAll (take (allowance - n) (fixes (now (image .entry)) at (now (refs .entry)) (length (now (refs .entry))))) (now (image .entry))) ⌝ }
 {
     let m = groups::differing(image, at, refs);
@@ -77,11 +77,19 @@ fn repair_block(
     n: usize,
     allowance: usize,
 ) -> usize
-    requires { ⌜ (Reach g (now image) i × (i % 2 ^ (g .bits - 1) + length (now refs) ≤ 2 ^ (g .bits - 1))) × (n + length (now refs) ≤ 67108864) ⌝ }
+    requires { ⌜ (Reach g (now image) i × (i % 2 ^ (g .bits - 1) + length (now refs) ≤ 2 ^ (g .bits - 1))) × ((n + length (now refs) ≤ mostLength) × (length (now refs) ≤ 32768)) ⌝ }
     ensures { λ r. ⌜ (r ≡ n + length (fixes (now (image .entry)) (countPlace g (now (image .entry)) i) (now (refs .entry)) (length (now (refs .entry))))) × (now (image .exit) ≡ applyAll (take (allowance - n) (fixes (now (image .entry)) (countPlace g (now (image .entry)) i) (now (refs .entry)) (length (now (refs .entry))))) (now (image .entry))) ⌝ }
 {
     let at = free::count_place(image, g, i);
     repair_run(image, at, refs, n, allowance)
+}
+
+// How many clusters from i on are repaired at once: their counts stand in one block, and 16 bits can number them.
+fn group_of(g: Geometry, i: usize) -> usize
+    requires { ⌜ ((1 ≤ g .bits) × (g .bits ≤ mostBits)) × (i < g .clusters) ⌝ }
+    ensures { λ r. ⌜ (((1 ≤ r) × (i + r ≤ g .clusters)) × (i % 2 ^ (g .bits - 1) + r ≤ 2 ^ (g .bits - 1))) × (r ≤ 32768) ⌝ }
+{
+    power::lesser(free::run_of(g, i), 32768)
 }
 
 // The counts of all clusters are to be refs.
@@ -92,7 +100,7 @@ fn repair(image: &mut [u8], g: Geometry, refs: &[u8], allowance: usize) -> Outco
     let mut i = 0;
     let mut n = 0;
     while i < g.clusters {
-        let m = free::run_of(g, i);
+        let m = group_of(g, i);
         n = repair_block(image, g, i, &refs[i..i + m], n, allowance);
         i += m;
     }

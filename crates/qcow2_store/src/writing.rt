@@ -7,6 +7,7 @@ ghost use Rattle.qcow2_spec.specs.Store.{clearUnits, clearing, writeWay};
 ghost use Rattle.qcow2_spec.specs.Opened.{Opened};
 ghost use Rattle.qcow2_spec.specs.Ready.{Ready};
 ghost use Rattle.qcow2_store.specs.Jobs.{JobIn, jobUnits};
+ghost use Rattle.qcow2_spec.specs.Header.{mostLength};
 use crate::clearing;
 use crate::finding;
 use crate::finding::Decision;
@@ -19,7 +20,7 @@ use units::Outcome;
 
 // A job with src from byte o of its cluster of c bytes on.
 fn put_job(image: &mut [u8], job: Job, c: usize, src: &[u8], o: usize, left: usize) -> Outcome
-    requires { ⌜ (JobIn (length (now image)) c job × (o + length (now src) ≤ c)) × (length (now image) ≤ 67108864) ⌝ }
+    requires { ⌜ (JobIn (length (now image)) c job × (o + length (now src) ≤ c)) × (length (now image) ≤ mostLength) ⌝ }
     ensures { λ r. ⌜ Done (planned (jobUnits job c o (now (src .entry)))) left (now (image .entry)) r (now (image .exit)) ⌝ }
 {
     match job {

@@ -28,7 +28,7 @@ pub fn compare(stored: u16, figure: u8) -> Sign
 
 // One cluster more.
 pub fn count_one(c: Counted, k: usize, stored: u16, figure: u8, clusters: usize) -> Counted
-    requires { ⌜ c .over ≤ 67108864 ⌝ }
+    requires { ⌜ c .over ≤ 4294967296 ⌝ }
     ensures { λ r. ⌜ r ≡ counted clusters k stored figure c ⌝ }
 {
     let sign = compare(stored, figure);

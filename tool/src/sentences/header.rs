@@ -1,12 +1,11 @@
 //! Numbers 1 to 5, 8, 9 and 18.
 
 use super::Subject;
-use crate::fields::{Fields, MAX_DISK, MAX_IMAGE, MAX_L1, SECTOR};
+use crate::fields::{Fields, BITS, MAX_DISK, MAX_IMAGE, MAX_L1, SECTOR};
 
 /// Numbers 1 to 5.
 pub fn shape(number: u32, subject: &Subject) -> (String, String) {
     let fields = Fields::read(subject.bytes);
-    let bits = fields.map_or(0, |fields| fields.cluster_bits);
     match number {
         1 => (
             format!("the file has {} bytes, fewer than the 512 of a header", subject.length),
@@ -17,14 +16,18 @@ pub fn shape(number: u32, subject: &Subject) -> (String, String) {
             format!("the version is {}; 2 and 3 are accepted", fields.map_or(0, |f| f.version)),
             subject.convert(),
         ),
-        4 => (
-            format!(
-                "cluster_bits is {bits}; 9 to 16 are accepted (clusters of 512 to 65,536 bytes)"
-            ),
-            subject.convert(),
-        ),
-        _ => length(subject, 1 << bits.clamp(9, 16)),
+        4 => (bits(fields.map_or(0, |fields| fields.cluster_bits)), subject.convert()),
+        _ => length(subject, fields.and_then(|fields| fields.cluster()).unwrap_or(512)),
     }
+}
+
+fn bits(bits: u32) -> String {
+    let (least, most) = (BITS.start(), BITS.end());
+    format!(
+        "cluster_bits is {bits}; {least} to {most} are accepted (clusters of {} to {} bytes)",
+        1u64 << least,
+        1u64 << most
+    )
 }
 
 fn magic(subject: &Subject) -> (String, String) {
@@ -49,7 +52,7 @@ fn magic(subject: &Subject) -> (String, String) {
 fn length(subject: &Subject, cluster: u64) -> (String, String) {
     let n = subject.length;
     if n > MAX_IMAGE {
-        let what = format!("the file has {n} bytes; at most 67,108,864 are accepted");
+        let what = format!("the file has {n} bytes; at most {MAX_IMAGE} are accepted");
         let advice = "Clusters that the guest no longer uses are left out of a copy made by \
                       `qemu-img convert`; if that is still too long, split the disk.";
         return (what, advice.into());
@@ -98,7 +101,7 @@ fn size(fields: &Fields, cluster: u64) -> String {
         format!("the disk has {} bytes; at most 2^40 are accepted", fields.size)
     } else if l1_size > MAX_L1 {
         format!(
-            "the L1 table has {l1_size} entries; at most 4,096 are accepted, which reach {} bytes \
+            "the L1 table has {l1_size} entries; at most {MAX_L1} are accepted, which reach {} bytes \
              with clusters of {cluster}",
             MAX_L1 * (cluster / 8) * cluster
         )

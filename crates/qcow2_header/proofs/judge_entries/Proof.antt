@@ -14,7 +14,7 @@ use Rattle.qcow2_header.proofs.judge_entries.Tie as tie
 mul-count : tie.Need-mul-count
 mul-count c =
     let h : c .before .before .before .args .g .span ≤ 4294967295 = omega arith in
-    let k : c .before .power .result / 8 ≤ 8192 = omega arith in
+    let k : c .before .power .result / 8 ≤ 268435456 = omega arith in
     omega (arith, mul-le-mul h k)
 
 good-requires : tie.Need-good-requires

@@ -1,7 +1,5 @@
 use Prim.Native.Nat.{_%_}
-use mathlib.Core.Path.{_≡_, ap}
 use denote.Ref.{now}
-use borrow.Author.Needs.{needs}
 use borrow.Author.Tests.{eq-eqb, ne-eqb}
 use Rattle.qcow2_spec.specs.Header.{diskSize, oddSize}
 use Rattle.qcow2_header.specs.Chain.{from18}

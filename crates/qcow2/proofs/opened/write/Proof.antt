@@ -25,10 +25,10 @@ returns-2 c =
     write-range (a .g) (now (a .image)) (b .pre) (a .x) (now (a .src)) (a .allowance) (c .before .before .if1 .left) (c .if2 .taken)
 
 rest-requires : tie.Need-rest-requires
-rest-requires c κs = c .before .before .before .before .before .before .pre .high
+rest-requires c κs = omega (arith, c .before .before .before .before .before .before .pre .high)
 
 power-requires : tie.Need-power-requires
-power-requires c κs = c .before .before .before .before .before .before .before .pre .high
+power-requires c κs = omega (arith, c .before .before .before .before .before .before .before .pre .high)
 
 sub-if3 : tie.Need-sub-if3
 sub-if3 c = omega (arith, c .before .rest .ensures .1 .0, c .power .ensures .0)
@@ -48,7 +48,7 @@ returns-4 c =
     (rw (c .before .before .before .power .ensures .0, c .before .before .before .before .rest .ensures .0) at (c .before .before .if3 .left)) _ (c .before .if4 .taken) (c .end-of .ensures)
 
 quotient-requires : tie.Need-quotient-requires
-quotient-requires c κs = c .before .before .before .before .before .before .before .before .before .before .pre .high
+quotient-requires c κs = omega (arith, c .before .before .before .before .before .before .before .before .before .before .pre .high)
 
 way-to-requires : tie.Need-way-to-requires
 way-to-requires c κs =

@@ -1,47 +1,73 @@
 use borrow.Author.Needs.{needs}
 use native.Mathlib.Omega.{arith}
-use Prim.Native.Nat.{_*_}
-use mathlib.Core.Path.{refl}
+use native.Mathlib.Nat.{add-zero}
+use Prim.Native.Nat.{_+_, _-_, _≤_}
+use mathlib.Core.Path.{_≡_}
 use denote.Ref.{now}
-use Rattle.qcow2_check.proofs.Walks.{part-of}
-use Rattle.qcow2_check.proofs.Compares.{judged-whole}
+use Rattle.qcow2_check.specs.Known.{Judging}
+use Rattle.qcow2_check.proofs.Stored.{block-part}
 use Rattle.qcow2_check.proofs.counts.judge_block.Statement.{statement}
 use Rattle.qcow2_check.proofs.counts.judge_block.Tie as tie
 
-judge-each-requires : tie.Need-judge-each-requires
-judge-each-requires c κs = c .before .before .before .before .before .before .before .pre .0
+abbrev Inv-loop : tie.InvT-loop
+Inv-loop image scratch at base m d₀ j₀ d j = (j ≤ m) × Judging image scratch (base + j) d
 
-returns : tie.Need-returns
-returns c = c .judge-each .ensures
+abbrev μ-loop : tie.MeasureT-loop
+μ-loop image scratch at base m d₀ j₀ d j = m - j
 
-returns-2 : tie.Need-returns-2
-returns-2 c =
-    let i = c .before .before in
-    let w = i .before .before in
-    let b = w .before .before .before .before .before in
+loop-holds : tie.Need-loop-holds Inv-loop μ-loop
+loop-holds c = (search needs, rw add-zero (c .before .before .pre .1 .1))
+
+mul-judge-group : tie.Need-mul-judge-group Inv-loop μ-loop
+mul-judge-group c = omega (arith, c .before .before .before .before .before .pre .0 .inside)
+
+add-judge-group : tie.Need-add-judge-group Inv-loop μ-loop
+add-judge-group c = omega (arith, c .before .before .before .before .before .pre .0 .inside)
+
+judge-group-requires : tie.Need-judge-group-requires Inv-loop μ-loop
+judge-group-requires c κs =
+    let t = c .before .before in
+    let b = t .before .before .before in
     let a = b .args in
-    let s = now (a .image) in
-    let f = now (a .scratch) in
-    let p = b .pre .0 in
-    judged-whole s f _ _ (a .at) (a .base) (a .m) (p .0) (part-of s (a .at) (2 * a .m) (2 * a .m) refl) (part-of f (a .base) (a .m) (a .m) refl)
-    (a .c) (w .whole-block .result .unlike) (w .whole-block .result .under) (p .1 .0 .0) (p .1 .1) (w .whole-block .ensures .0) (w .whole-block .ensures .1) (omega (arith, i .if1 .left))
+    let p = b .pre in (
+      (
+        block-part (now (a .image)) (a .base) (a .m) (a .at) (t .loop .j) (c .lesser .result) (p .0) (omega (arith, c .lesser .ensures)),
+        ((omega (arith, c .lesser .ensures, p .1 .0 .0), p .1 .0 .1), t .loop .inv .1),
+      ),
+      omega (arith, c .lesser .ensures),
+    )
+
+loop-less : tie.Need-loop-less Inv-loop μ-loop
+loop-less c = omega (arith, c .before .lesser .ensures)
+
+loop-again : tie.Need-loop-again Inv-loop μ-loop
+loop-again c =
+    let l = c .before in
+    let t = l .before .before in
+    let a = t .before .before .before .args in
+    let g : a .base + (t .loop .j + l .lesser .result) ≡ a .base + t .loop .j + l .lesser .result = omega arith in
+    (omega (arith, l .lesser .ensures), rw g (c .judge-group .ensures))
+
+returns : tie.Need-returns Inv-loop μ-loop
+returns c =
+    let t = c .before in
+    let e : t .loop .j ≡ t .before .before .before .args .m = omega arith in
+    rw e at (t .loop .inv .1)
 
 pub judge-block-spec : {M : Type 1} → statement M
 judge-block-spec =
     tie.close
     (tie.spec
+    Inv-loop
+    μ-loop
+    loop-holds
     (search needs)
     (search needs)
+    mul-judge-group
+    add-judge-group
     (search needs)
+    judge-group-requires
     (search needs)
-    (search needs)
-    (search needs)
-    (search needs)
-    (search needs)
-    (search needs)
-    (search needs)
-    judge-each-requires
-    returns
-    (search needs)
-    (search needs)
-    returns-2)
+    loop-less
+    loop-again
+    returns)

@@ -44,14 +44,11 @@ judge-block-requires c κs =
     let g = b .args .g in
     let s = now (b .args .image) in
     let e = p .power .ensures .0 in (
-      (
-        record {
-          inside = omega (arith, a .ensures .1, e, c .lesser .ensures);
-          stands = λ j k. rw (here i .1) (block-stands s (p .power .result / 2) (t .loop .b) j (a .result) (per-is o (p .power .result) e) (a .ensures .0) (omega (arith, c .lesser .ensures)));
-        },
-        ((omega (arith, c .lesser .ensures), omega (arith, b .pre .1, o .short, few-clusters (length s) (g .clusters) (g .bits) (o .whole))), t .loop .inv .2),
-      ),
-      omega (arith, p .power .ensures .1 .1, c .lesser .ensures),
+      record {
+        inside = omega (arith, a .ensures .1, e, c .lesser .ensures);
+        stands = λ j k. rw (here i .1) (block-stands s (p .power .result / 2) (t .loop .b) j (a .result) (per-is o (p .power .result) e) (a .ensures .0) (omega (arith, c .lesser .ensures)));
+      },
+      ((omega (arith, c .lesser .ensures), omega (arith, b .pre .1, o .short, few-clusters (length s) (g .clusters) (g .bits) (o .whole))), t .loop .inv .2),
     )
 
 add-b : tie.Need-add-b Inv-loop μ-loop

@@ -14,7 +14,7 @@ walk-row-requires : tie.Need-walk-row-requires
 walk-row-requires c κs = let b = c .before .before .before .before in (b .pre .0, b .pre .1 .0)
 
 power-requires : tie.Need-power-requires
-power-requires c κs = c .before .before .before .before .before .before .before .pre .0 .high
+power-requires c κs = omega (arith, c .before .before .before .before .before .before .before .pre .0 .high)
 
 passed-requires : tie.Need-passed-requires
 passed-requires c κs = let p = c .before .before .before .before .before .before .before .before .pre in omega (arith, p .1 .1, p .0 .is-rows, p .0 .few)

@@ -45,7 +45,7 @@ returns c =
     (rw (← r .0, p .1 .0) (t .walk-below .ensures .0), rw (← r .1, p .1 .0) (t .walk-below .ensures .1))
 
 power-requires : tie.Need-power-requires
-power-requires c κs = c .before .before .before .before .before .before .before .before .pre .0 .high
+power-requires c κs = omega (arith, c .before .before .before .before .before .before .before .before .pre .0 .high)
 
 returns-2 : tie.Need-returns-2
 returns-2 c =

@@ -8,8 +8,8 @@ use Rattle.qcow2_guest.proofs.reading.row_left.Tie as tie
 
 mul-room : tie.Need-mul-room
 mul-room c =
-    let h : c .before .before .before .power .result - c .before .rest .result ≤ 65536 = omega arith in
-    let k : c .power2 .result ≤ 65536 = omega arith in
+    let h : c .before .before .before .power .result - c .before .rest .result ≤ 2147483648 = omega arith in
+    let k : c .power2 .result ≤ 2147483648 = omega arith in
     omega (arith, mul-le-mul h k)
 
 -- at least one entry is left

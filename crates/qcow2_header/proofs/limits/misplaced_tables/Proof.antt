@@ -26,7 +26,7 @@ returns-2 c =
 mul-result : tie.Need-mul-result
 mul-result c =
     let h : c .before .before .before .before .before .args .g .span ≤ 4294967295 = omega arith in
-    let k : c .before .before .power .result / 8 ≤ 8192 = omega arith in
+    let k : c .before .before .power .result / 8 ≤ 268435456 = omega arith in
     omega (arith, mul-le-mul h k)
 
 returns-3 : tie.Need-returns-3

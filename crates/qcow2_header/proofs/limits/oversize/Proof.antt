@@ -2,8 +2,10 @@ use borrow.Author.Needs.{needs}
 use borrow.Author.Tests.{lt-ltb, le-ltb}
 use native.Mathlib.Omega.{arith}
 use native.Mathlib.Nat.{mul-le-mul}
-use Prim.Native.Nat.{_/_, _≤_}
-use Rattle.qcow2_spec.specs.Header.{mostL1}
+use Prim.Native.Nat.{ℕ, _/_, _^_, _≤_}
+use mathlib.Core.Path.{_≡_}
+use lib.Pow.{pow-mono}
+use Rattle.qcow2_spec.specs.Header.{mostBits, mostL1}
 use Rattle.qcow2_header.specs.Chain.{oversize}
 use Rattle.qcow2_header.proofs.limits.oversize.Statement.{statement}
 use Rattle.qcow2_header.proofs.limits.oversize.Tie as tie
@@ -16,15 +18,18 @@ returns-2 : tie.Need-returns-2
 unfolding oversize
 returns-2 c = rw (le-ltb _ _ (c .before .before .if1 .left), lt-ltb mostL1 _ (c .if2 .taken))
 
+-- the entries are few by now, so neither product wraps
+eighth : (b p : ℕ) → b ≤ mostBits → p ≡ 2 ^ b → p / 8 ≤ 2 ^ mostBits / 8
+eighth b p h e = omega (arith, pow-mono h)
+
 mul-result : tie.Need-mul-result
 mul-result c =
-    let k : c .power .result / 8 ≤ 8192 = omega arith in
-    omega (arith, mul-le-mul (c .before .if2 .left) k)
+    omega (arith, mul-le-mul (c .before .if2 .left) (eighth _ _ (c .before .before .before .before .before .pre) (c .power .ensures .0)))
 
 mul-result-2 : tie.Need-mul-result-2
 mul-result-2 c =
-    let k : c .power .result / 8 ≤ 8192 = omega arith in
-    omega (arith, mul-le-mul (mul-le-mul (c .before .if2 .left) k) (c .power .ensures .1 .1))
+    let h : c .power .result ≤ 2 ^ mostBits = omega (arith, pow-mono (c .before .before .before .before .before .pre)) in
+    omega (arith, mul-le-mul (mul-le-mul (c .before .if2 .left) (eighth _ _ (c .before .before .before .before .before .pre) (c .power .ensures .0))) h)
 
 returns-3 : tie.Need-returns-3
 unfolding oversize

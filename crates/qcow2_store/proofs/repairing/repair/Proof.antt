@@ -17,8 +17,8 @@ abbrev μ-loop : tie.MeasureT-loop
 loop-holds : tie.Need-loop-holds Inv-loop μ-loop
 loop-holds c = let a = c .before .before .args in (omega arith, (refl, state-first (a .g) (now (a .image)) (now (a .refs)) (a .allowance)))
 
-run-of-requires : tie.Need-run-of-requires Inv-loop μ-loop
-run-of-requires c κs = let p = c .before .before .before .before .before .pre .0 in ((p .low, p .high), omega arith)
+group-of-requires : tie.Need-group-of-requires Inv-loop μ-loop
+group-of-requires c κs = let p = c .before .before .before .before .before .pre .0 in ((p .low, p .high), omega arith)
 
 add-repair-block : tie.Need-add-repair-block Inv-loop μ-loop
 add-repair-block c = omega (arith, c .before .before .before .before .before .before .before .pre .0 .few)
@@ -32,13 +32,13 @@ repair-block-requires c κs =
     let a = s .args in
     let l = now (a .image) in
     let t = c .before .before .before .before .before .loop in
-    let m = c .before .before .run-of in
+    let m = c .before .before .group-of in
     let i : ℕ = t .i in
     let q : i + m .result - i ≡ m .result = omega arith in
     let n = part-long (now (a .refs)) i (m .result) (i + m .result - i) q (omega (arith, s .pre .1)) in
     let h : i < a .g .clusters = omega arith in (
-      (found-reach (a .g) l (now (a .refs)) (s .pre .0) (a .allowance) i h (t .image) (t .inv .1 .1 .image), rw n (m .ensures .1)),
-      omega (arith, n, t .inv .1 .1 .few, m .ensures .0 .1, s .pre .0 .few),
+      (found-reach (a .g) l (now (a .refs)) (s .pre .0) (a .allowance) i h (t .image) (t .inv .1 .1 .image), rw n (m .ensures .0 .1)),
+      (omega (arith, n, t .inv .1 .1 .few, m .ensures .0 .0 .1, s .pre .0 .few), rw n (m .ensures .1)),
     )
 
 add-i : tie.Need-add-i Inv-loop μ-loop
@@ -50,7 +50,7 @@ loop-again c =
     let a = s .args in
     let l = now (a .image) in
     let t = c .before .before .before .before .before .before .before .before .loop in
-    let m = c .before .before .before .before .before .run-of in
+    let m = c .before .before .before .before .before .group-of in
     let r = c .before .before .repair-block in
     let i : ℕ = t .i in
     let q : i + m .result - i ≡ m .result = omega arith in
@@ -58,10 +58,10 @@ loop-again c =
     let f = part-figures (now (a .refs)) i (m .result) (i + m .result - i) q in
     let h : i < a .g .clusters = omega arith in
     let e = rw n at (r .ensures) in (
-      m .ensures .0 .1,
+      m .ensures .0 .0 .1,
       (
         r .kept .0 ∙ t .inv .1 .0,
-        state-next (a .g) l (now (a .refs)) (s .pre .0) (a .allowance) i h (t .n) (t .image) _ (m .result) (r .result) (r .last .0) (t .inv .1 .1) (m .ensures .0 .1) (m .ensures .1) f (e .0) (e .1),
+        state-next (a .g) l (now (a .refs)) (s .pre .0) (a .allowance) i h (t .n) (t .image) _ (m .result) (r .result) (r .last .0) (t .inv .1 .1) (m .ensures .0 .0 .1) (m .ensures .0 .1) f (e .0) (e .1),
       ),
     )
 
@@ -78,7 +78,7 @@ repair-spec =
     Inv-loop
     μ-loop
     loop-holds
-    run-of-requires
+    group-of-requires
     add-repair-block
     (search needs)
     (search needs)

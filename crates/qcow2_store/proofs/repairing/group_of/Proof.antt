@@ -1,0 +1,10 @@
+use borrow.Author.Needs.{needs}
+use native.Mathlib.Omega.{arith}
+use Rattle.qcow2_store.proofs.repairing.group_of.Statement.{statement}
+use Rattle.qcow2_store.proofs.repairing.group_of.Tie as tie
+
+returns : tie.Need-returns
+returns c = omega (arith, c .lesser .ensures, c .before .run-of .ensures)
+
+pub group-of-spec : {M : Type 1} → statement M
+group-of-spec = tie.close (tie.spec (search needs) (search needs) returns)
