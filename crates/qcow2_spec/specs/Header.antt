@@ -1,5 +1,5 @@
 -- The header's fields, their limits, and the numbers 1 to 10 and 18. Paper 01, "What counts as an image" and the table of numbers;
--- paper 02, T-02 and T-03.
+-- paper 02, T-02, T-03 and T-10.
 -- Assumes nothing.
 use Prim.Native.Nat.{ℕ, _+_, _*_, _/_, _%_, _^_}
 use mathlib.Core.Bool.{Bool, not, _&&_, _||_}
