@@ -8,6 +8,10 @@ use crate::{help, number};
 pub struct Options {
     pub json: bool,
     pub image: PathBuf,
+    /// Look although another program may be changing the image.
+    pub share: bool,
+    /// Look at it as if it were padded and its header_length set back.
+    pub as_if_mended: bool,
     pub command: Command,
 }
 
@@ -28,14 +32,17 @@ pub enum Parsed {
     Version,
 }
 
+/// The options of the commands that change nothing.
+const LOOKS: &[&str] = &["--share", "--as-if-mended"];
+
 /// A command's name, its operands beside the image, its options beside those
 /// of all, and its help.
 const COMMANDS: [(&str, &[&str], &[&str], &str); 7] = [
-    ("info", &[], &[], help::INFO),
-    ("check", &[], &[], help::CHECK),
+    ("info", &[], LOOKS, help::INFO),
+    ("check", &[], LOOKS, help::CHECK),
     ("repair", &[], &["--allowance", "--force"], help::REPAIR),
-    ("map", &[], &[], help::MAP),
-    ("read", &["OFFSET", "LENGTH"], &[], help::READ),
+    ("map", &[], LOOKS, help::MAP),
+    ("read", &["OFFSET", "LENGTH"], LOOKS, help::READ),
     ("write", &["OFFSET"], &["--allowance"], help::WRITE),
     ("discard", &["OFFSET", "LENGTH"], &["--allowance"], help::DISCARD),
 ];
@@ -69,7 +76,8 @@ pub fn parse(args: impl IntoIterator<Item = OsString>) -> Result<Parsed, String>
         return Err(format!("{name}: '{}' is one operand too many", extra.to_string_lossy()));
     }
     let command = command(name, &numbers, &line);
-    Ok(Parsed::Run(Options { json: line.json, image, command }))
+    let Line { json, share, as_if_mended, .. } = line;
+    Ok(Parsed::Run(Options { json, image, share, as_if_mended, command }))
 }
 
 fn command(name: &str, numbers: &[u64], line: &Line) -> Command {
@@ -90,6 +98,8 @@ struct Line {
     json: bool,
     allowance: u64,
     force: bool,
+    share: bool,
+    as_if_mended: bool,
 }
 
 /// Operands and options; None if help is asked for.
@@ -97,7 +107,14 @@ fn line(
     mut args: impl Iterator<Item = OsString>,
     options: &[&str],
 ) -> Result<Option<Line>, String> {
-    let mut line = Line { operands: Vec::new(), json: false, allowance: u64::MAX, force: false };
+    let mut line = Line {
+        operands: Vec::new(),
+        json: false,
+        allowance: u64::MAX,
+        force: false,
+        share: false,
+        as_if_mended: false,
+    };
     while let Some(arg) = args.next() {
         match arg.to_str() {
             Some("--") => {
@@ -107,6 +124,10 @@ fn line(
             Some("--help" | "-h") => return Ok(None),
             Some("--json") => line.json = true,
             Some("--force") if options.contains(&"--force") => line.force = true,
+            Some("--share") if options.contains(&"--share") => line.share = true,
+            Some("--as-if-mended") if options.contains(&"--as-if-mended") => {
+                line.as_if_mended = true;
+            }
             Some("--allowance") if options.contains(&"--allowance") => {
                 let value = args.next().ok_or("--allowance: the number of units is missing")?;
                 let value = number::parse(&value.to_string_lossy());
@@ -149,6 +170,8 @@ mod tests {
         assert_eq!(run("info a").unwrap().command, Command::Info);
         assert_eq!(run("check a").unwrap().command, Command::Check);
         assert_eq!(run("map -").unwrap().command, Command::Map);
+        let options = run("check a --share --as-if-mended").unwrap();
+        assert!(options.share && options.as_if_mended);
     }
 
     #[test]
@@ -162,6 +185,9 @@ mod tests {
         for line in ["check a --force", "write a 0 --force", "discard a 0 512 --force"] {
             assert_eq!(fault(line), "there is no option '--force' here");
         }
+        for line in ["write a 0 --share", "repair a --share", "discard a 0 512 --share"] {
+            assert_eq!(fault(line), "there is no option '--share' here");
+        }
         assert!(fault("write a x").starts_with("write: OFFSET: 'x' is no number"));
         assert!(fault("write a 0 --allowance").contains("missing"));
     }
@@ -172,7 +198,7 @@ mod tests {
             let asked = parse([name, "--help"].map(OsString::from));
             assert!(matches!(asked, Ok(Parsed::Help(found)) if found == text));
             assert!(text.starts_with(&format!("qstore {name} IMAGE")));
-            for option in ["--allowance", "--force"] {
+            for option in ["--allowance", "--force", "--share", "--as-if-mended"] {
                 assert_eq!(text.contains(option), options.contains(&option));
             }
             assert!(help::MAIN.contains(&format!("qstore {name} ")));

@@ -25,7 +25,7 @@ No machine may have the image open while it is changed.
 ";
 
 pub const INFO: &str = "\
-qstore info IMAGE [--json]
+qstore info IMAGE [--json] [--share] [--as-if-mended]
 
 Version, cluster size, disk size, L1 entries, clusters in use, free and leaked,
 and the verdict of the check.
@@ -34,7 +34,7 @@ Exit: 0, or 1 if the image is refused.
 ";
 
 pub const CHECK: &str = "\
-qstore check IMAGE [--json]
+qstore check IMAGE [--json] [--share] [--as-if-mended]
 
 Counts the references of every cluster and compares them with the stored
 counts. The image is not changed.
@@ -58,7 +58,7 @@ Exit: 0 sound afterwards, 1 failed, refused or stopped, 2 damaged.
 ";
 
 pub const MAP: &str = "\
-qstore map IMAGE [--json]
+qstore map IMAGE [--json] [--share] [--as-if-mended]
 
 The guest disk as runs, fields parted by tabs: guest offset, length, kind and
 host offset. Kinds: host (data at the host offset), zeros, absent (not
@@ -69,7 +69,7 @@ Exit: 0, or 1 if the image or a run is refused.
 ";
 
 pub const READ: &str = "\
-qstore read IMAGE OFFSET LENGTH [--json]
+qstore read IMAGE OFFSET LENGTH [--json] [--share] [--as-if-mended]
 
 Writes the guest bytes to standard output. Nothing is written unless the whole
 range can be read. With --json the bytes are given in hex.

@@ -7,19 +7,32 @@ use std::path::{Path, PathBuf};
 use qcow2_core::Verdict;
 
 use crate::fields::MAX_IMAGE;
+use crate::mended;
 use crate::progress::Progress;
 use crate::report::Failure;
 use crate::sentences::{refusal, Request, Subject};
+
+/// What a command does with the image.
+#[derive(Clone, Copy, PartialEq)]
+pub enum Access {
+    Look,
+    /// Look although another program may be changing it.
+    LookShared,
+    Change,
+}
 
 pub struct ImageFile {
     pub path: PathBuf,
     pub file: File,
     pub bytes: Vec<u8>,
+    /// What the user has to know of how the bytes were come by.
+    pub notes: Vec<String>,
 }
 
 impl ImageFile {
-    /// Reads the image, for reading alone or for changing too.
-    pub fn open(path: &Path, change: bool) -> Result<ImageFile, Failure> {
+    /// Reads the image; `as_if_mended` is for looking alone.
+    pub fn open(path: &Path, access: Access, as_if_mended: bool) -> Result<ImageFile, Failure> {
+        let change = access == Access::Change;
         let file = OpenOptions::new().read(true).write(change).open(path)?;
         let about = file.metadata()?;
         if !about.is_file() {
@@ -29,8 +42,9 @@ impl ImageFile {
         if about.len() > MAX_IMAGE {
             return Err(too_long(path, &file, about.len())?);
         }
-        let bytes = read_whole(&file, about.len())?;
-        Ok(ImageFile { path: path.into(), file, bytes })
+        let mut bytes = read_whole(&file, about.len())?;
+        let notes = if as_if_mended { mended::mend(&mut bytes) } else { Vec::new() };
+        Ok(ImageFile { path: path.into(), file, bytes, notes })
     }
 
     /// The failure for a number that the core gave.

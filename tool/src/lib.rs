@@ -16,6 +16,7 @@ pub mod help;
 pub mod image_file;
 pub mod json;
 pub mod layout;
+pub mod mended;
 pub mod number;
 pub mod ordered;
 pub mod places;

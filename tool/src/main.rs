@@ -11,8 +11,8 @@ fn main() -> ExitCode {
         Ok(Parsed::Help(text)) => print(text),
         Ok(Parsed::Version) => print(&format!("qstore {}\n", env!("CARGO_PKG_VERSION"))),
         Ok(Parsed::Run(options)) => {
-            let answer = commands::run(&options);
-            report::show(&options, answer)
+            let (notes, answer) = commands::run(&options);
+            report::show(&options, notes, answer)
         }
         Err(message) => {
             eprintln!("qstore: {message}\n{}", help::HINT);

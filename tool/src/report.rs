@@ -25,8 +25,10 @@ pub enum Failure {
         json: Vec<(&'static str, Json)>,
         advice: String,
     },
-    /// The file, the line or the request.
+    /// The file or the request.
     Other(String),
+    /// Standard input or output, which says nothing of the image.
+    Stream(String),
 }
 
 impl From<io::Error> for Failure {
@@ -44,29 +46,42 @@ impl Failure {
     }
 }
 
-/// Shows the answer; the exit code.
-pub fn show(options: &Options, answer: Result<Report, Failure>) -> u8 {
+/// Shows the answer after the notes, which say under what conditions it holds;
+/// the exit code.
+pub fn show(options: &Options, notes: Vec<String>, answer: Result<Report, Failure>) -> u8 {
+    let image = options.image.display();
     let (text, mut json, exit) = match answer {
         Ok(report) => (Ok(report.text), report.json, report.exit),
         Err(failure) => {
             let exit = failure.exit();
+            let about = match failure {
+                Failure::Stream(_) => "qstore: ".into(),
+                _ => format!("qstore: {image}: "),
+            };
             let (text, json) = words(failure);
-            (Err(text), json, exit)
+            (Err(about + &text), json, exit)
         }
     };
     let mut out = io::stdout().lock();
     let shown = if options.json {
         json.insert(0, ("image", options.image.to_string_lossy().into_owned().into()));
+        if !notes.is_empty() {
+            json.push(("notes", Json::List(notes.into_iter().map(Json::from).collect())));
+        }
         writeln!(out, "{}", Json::Object(json))
     } else {
+        notes.iter().for_each(|note| eprintln!("qstore: {image}: note: {note}"));
         match text {
             Ok(text) => out.write_all(text.as_bytes()),
-            Err(text) => writeln!(io::stderr(), "qstore: {}: {text}", options.image.display()),
+            Err(text) => writeln!(io::stderr(), "{text}"),
         }
     };
     match shown.and_then(|()| out.flush()) {
         Ok(()) => exit,
-        Err(_) => FAILED,
+        Err(error) => {
+            eprintln!("qstore: standard output: {error}");
+            FAILED
+        }
     }
 }
 
@@ -85,6 +100,8 @@ fn words(failure: Failure) -> (String, Vec<(&'static str, Json)>) {
             json.push(("advice", advice.clone().into()));
             (format!("not changed: {what}\n  {advice}"), json)
         }
-        Failure::Other(message) => (message.clone(), vec![("failed", message.into())]),
+        Failure::Other(message) | Failure::Stream(message) => {
+            (message.clone(), vec![("failed", message.into())])
+        }
     }
 }

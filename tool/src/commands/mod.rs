@@ -12,15 +12,26 @@ mod write;
 use std::io::{stdin, stdout};
 
 use crate::args::{Command, Options};
-use crate::image_file::ImageFile;
+use crate::image_file::{Access, ImageFile};
 use crate::report::{Failure, Report};
 
-pub fn run(options: &Options) -> Result<Report, Failure> {
-    let changes = matches!(
-        options.command,
-        Command::Repair { .. } | Command::Write { .. } | Command::Discard { .. }
-    );
-    let image = ImageFile::open(&options.image, changes)?;
+/// Runs the command: what is to be noted of the conditions, and its answer.
+pub fn run(options: &Options) -> (Vec<String>, Result<Report, Failure>) {
+    match ImageFile::open(&options.image, access(options), options.as_if_mended) {
+        Ok(mut image) => (std::mem::take(&mut image.notes), answer(options, image)),
+        Err(failure) => (Vec::new(), Err(failure)),
+    }
+}
+
+fn access(options: &Options) -> Access {
+    match options.command {
+        Command::Repair { .. } | Command::Write { .. } | Command::Discard { .. } => Access::Change,
+        _ if options.share => Access::LookShared,
+        _ => Access::Look,
+    }
+}
+
+fn answer(options: &Options, image: ImageFile) -> Result<Report, Failure> {
     match options.command {
         Command::Info => info::run(&image),
         Command::Check => check::run(&image),

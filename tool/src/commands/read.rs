@@ -35,7 +35,7 @@ pub fn run(
         })?;
     } else {
         portions(image, offset, length, "reading", &mut |bytes| out.write_all(bytes))?;
-        out.flush()?;
+        out.flush().map_err(output)?;
     }
     let json = vec![("offset", offset.into()), ("length", length.into()), ("data", hex.into())];
     Ok(Report { text: String::new(), json, exit: DONE })
@@ -57,9 +57,13 @@ fn portions(
         let request = Request::Read { offset: offset + done, length: len };
         qcow2_core::read(&image.bytes, offset + done, part)
             .map_err(|number| image.refused(number, request))?;
-        each(part)?;
+        each(part).map_err(output)?;
         done += len;
         progress.at(done);
     }
     Ok(())
+}
+
+fn output(error: std::io::Error) -> Failure {
+    Failure::Stream(format!("standard output: {error}"))
 }

@@ -27,7 +27,10 @@ pub fn run(
     // More bytes than the image has can find no room.
     let most = room.min(ordered.image().len() as u64);
     let mut data = Vec::new();
-    input.take(most + 1).read_to_end(&mut data)?;
+    input
+        .take(most + 1)
+        .read_to_end(&mut data)
+        .map_err(|error| Failure::Stream(format!("standard input: {error}")))?;
     if data.len() as u64 > most {
         let number = if most == room { 11 } else { 14 };
         return Err(refuse(ordered.image(), number, data.len(), 0));
