@@ -13,9 +13,10 @@
  *     and qcow2_repair change them; the others only read them. Every call
  *     judges the header afresh and accepts any bytes whatever.
  *   - out, data, scratch: bytes of the caller, with their length.
- *   - host, units, first, second: one number each, valid only where the call's
- *     description says that it is given. Set it before the call if you want to
- *     read it after any answer.
+ *   - rows: numbers of 64 bits of the caller, with how many there are.
+ *   - host, units, first, second, count: one number each, valid only where the
+ *     call's description says that it is given. Set it before the call if you
+ *     want to read it after any answer.
  *
  *   A pointer must not be NULL, also where its length is 0, and has to be good
  *   for its length. A run that a call writes to must not overlap any other run
@@ -30,7 +31,7 @@
  *   field, or of one byte of a fill.
  *
  * Answers
- *   0 is done: finished, sound, or a host offset, as the call has it.
+ *   0 is done: finished, sound, listed, or a host offset, as the call has it.
  *   1 to 999 is a refusal: no lent byte was changed, but for QCOW2_DAMAGED_IMAGE
  *   (17), which fills the scratch as the check does. 1001 and up are the other
  *   answers. The header's numbers are tried first, in the order 1 to 8, 18, 9,
@@ -47,7 +48,7 @@
 extern "C" {
 #endif
 
-/* Done: finished, sound, or a host offset. */
+/* Done: finished, sound, listed, or a host offset. */
 #define QCOW2_DONE 0u
 
 /* ---- Refusals: the header ------------------------------------------------ */
@@ -101,9 +102,9 @@ extern "C" {
 
 /* The allowance was spent before the last unit (write, discard, repair). */
 #define QCOW2_STOPPED 1001u
-/* The guest offset reads as zeros (translate). */
+/* The guest offset reads as zeros (translate, runs). */
 #define QCOW2_ZEROS 1002u
-/* The guest offset is not allocated, so it reads as zeros (translate). */
+/* The guest offset is not allocated, so it reads as zeros (translate, runs). */
 #define QCOW2_ABSENT 1003u
 /* Leaking: counts above their references, nothing worse (check). */
 #define QCOW2_LEAKS 1004u
@@ -139,6 +140,25 @@ uint32_t qcow2_read(const uint8_t *image, size_t n, uint64_t offset, uint8_t *ou
  * number of a refusal is had from qcow2_translate.
  */
 size_t qcow2_lookup(const uint8_t *image, size_t n, uint64_t offset);
+
+/*
+ * Lists the runs of the len guest bytes from offset on. A run is bytes that go
+ * on alike, as far as they do and the range goes. Each takes three numbers of
+ * rows:
+ *
+ *   its kind, as qcow2_translate would answer: QCOW2_DONE where it has a host
+ *     offset, QCOW2_ZEROS, QCOW2_ABSENT, or QCOW2_BAD_ENTRY or QCOW2_COMPRESSED
+ *     where a bad entry is on its way
+ *   its host offset, which goes on byte by byte; 0 where it has none
+ *   its length, above 0
+ *
+ * QCOW2_DONE: *count runs are listed, m / 3 at most (m numbers are lent), one
+ * after the other; the rest of rows is as it was. Where their lengths fall short
+ * of len, call again from there on. Else 1 to 11 or 18, *count is 0, and rows
+ * are as they were. Length 0 at or before the disk's end is done with no run.
+ */
+uint32_t qcow2_runs(const uint8_t *image, size_t n, uint64_t offset, uint64_t len, uint64_t *rows,
+                    size_t m, uint64_t *count);
 
 /* ---- Storing -------------------------------------------------------------
  *

@@ -17,18 +17,19 @@ use Rattle.qcow2_spec.specs.Header.{version, clusterSize, clusters, diskSize, l
 use Rattle.qcow2_spec.specs.Entries.{place, goodPlace, goodL1, goodL2, compressed, zeroMark, newEntry}
 use Rattle.qcow2_spec.specs.Counts.{countAt, countOf, setCount, freeAt, freeFrom, free}
 use Rattle.qcow2_spec.specs.Guest.{l1EntryAt, l1Entry, entryWay, l2Way, way, entryGives, wayGives, located, translate, foundByte, guestByte, guestBytes, wayNumber, waysNumber, outside, touched, readNumber}
+use Rattle.qcow2_spec.specs.Runs.{sameFound, goesOn, runLength, runRow, runRows, runsNumber, listRuns}
 use Rattle.qcow2_spec.specs.Store.{clearUnits, clearing, judged, allot, writeNew, writeTable, writeSlot, writeWay, writePlan, discardSlot, discardWay, discardPlan}
 use Rattle.qcow2_spec.specs.References.{l1Entries, l2Entries, named, l2Refs, tableRefs, l1Refs, fixedRefs, references, figuresOf}
 use Rattle.qcow2_spec.specs.Check.{l2Verdict, entryVerdict, l1Verdict, short, over, countsVerdict, verdict, repairUnits, verdictPlan, repairPlan, check}
 use Rattle.qcow2_spec.specs.Series.{Healthy, Call, AllBytes, Agrees, Holds}
 use Rattle.qcow2_spec.proofs.Series.{demand3}
 use Rattle.bench_table.specs.Bench.{header, body, benchWith, bench, marked}
-use Rattle.bench_table.specs.Table.{cost, filled, write, written, Stored, CutEarly, CutLate, Repaired, Next, Discarded, Full, Edges, Cleared, Starred, Headers}
+use Rattle.bench_table.specs.Table.{cost, filled, write, written, turned, stale, Stored, CutEarly, CutLate, Repaired, Next, Discarded, Full, Edges, Cleared, Runs, Starred, Headers}
 use Rattle.bench_table.proofs.Quick.{quick, quick-ok}
 
 -- what an example computes with
 unfoldable computing : Unit {0}
-unfolding be16 be32 be64 bytes16 bytes32 bytes64 entries version clusterSize clusters diskSize l1Size l1At tableAt tableClusters perBlock blocks perTable table blockAt goodBlock goodTable unsupported tooBig oddSize badTables headerNumber tableNumber judge countAt countOf freeAt freeFrom place goodPlace goodL1 goodL2 compressed zeroMark l1EntryAt l1Entry way entryWay l2Way entryGives wayGives located translate foundByte guestByte guestBytes wayNumber waysNumber outside touched readNumber apply applyAll setCount fill cluster newEntry autoclear clearUnits clearing judged allot writeNew writeTable writeSlot writeWay writePlan discardSlot discardWay discardPlan planUnits planNumber after run l1Entries l2Entries named l2Refs tableRefs l1Refs fixedRefs references occurrences figures twice figuresOf short over l2Verdict entryVerdict l1Verdict countsVerdict verdict free repairUnits verdictPlan repairPlan header body benchWith bench marked quick cost filled write written
+unfolding be16 be32 be64 bytes16 bytes32 bytes64 entries version clusterSize clusters diskSize l1Size l1At tableAt tableClusters perBlock blocks perTable table blockAt goodBlock goodTable unsupported tooBig oddSize badTables headerNumber tableNumber judge countAt countOf freeAt freeFrom place goodPlace goodL1 goodL2 compressed zeroMark l1EntryAt l1Entry way entryWay l2Way entryGives wayGives located translate foundByte guestByte guestBytes wayNumber waysNumber outside touched readNumber sameFound goesOn runLength runRow runRows runsNumber listRuns apply applyAll setCount fill cluster newEntry autoclear clearUnits clearing judged allot writeNew writeTable writeSlot writeWay writePlan discardSlot discardWay discardPlan planUnits planNumber after run l1Entries l2Entries named l2Refs tableRefs l1Refs fixedRefs references occurrences figures twice figuresOf short over l2Verdict entryVerdict l1Verdict countsVerdict verdict free repairUnits verdictPlan repairPlan header body benchWith bench marked quick cost filled write written turned stale
 computing = tt
 
 quick-stored : (a b c d e x y z : ℕ) → Stored quick (a ∷ b ∷ c ∷ d ∷ e ∷ []) x y z
@@ -86,6 +87,11 @@ quick-cleared a b c d e x y z =
       version-2 = refl;
     }
 
+quick-runs : (a b c d e x y z : ℕ) → Runs quick (a ∷ b ∷ c ∷ d ∷ e ∷ []) x y z
+unfolding computing
+quick-runs a b c d e x y z =
+    record { none = refl; past = refl; last = refl; absent = refl; begins = refl; apart = refl; no-room = refl; marks = refl }
+
 -- the starred lines, for all data bytes
 pub starred : (a b c d e x y z : ℕ) → Starred after (a ∷ b ∷ c ∷ d ∷ e ∷ []) x y z
 starred a b c d e x y z =
@@ -100,6 +106,7 @@ starred a b c d e x y z =
       full = quick-full a b c d e x y z;
       edges = quick-edges a b c d e x y z;
       cleared = quick-cleared a b c d e x y z;
+      runs = quick-runs a b c d e x y z;
     })
 
 pub headers : Headers

@@ -1,5 +1,5 @@
--- The starred lines of paper 01, "The bench image", its lines on the header, and paper 02's T-03 on that image, as one table. It is proved
--- in proofs/Table.antt.
+-- The starred lines of paper 01, "The bench image", its lines on the header, paper 02's T-03 on that image, and runs of its bytes, as one
+-- table. It is proved in proofs/Table.antt.
 -- Assumes nothing.
 use Prim.Native.Nat.{ℕ}
 use mathlib.Core.Path.{_≡_}
@@ -11,8 +11,10 @@ use Rattle.units.specs.Plan.{Plan, planUnits, planNumber}
 use Rattle.qcow2_spec.specs.Header.{judge}
 use Rattle.qcow2_spec.specs.Counts.{free}
 use Rattle.qcow2_spec.specs.Guest.{guestBytes, readNumber}
+use Rattle.qcow2_spec.specs.Runs.{runRows, listRuns}
 use Rattle.qcow2_spec.specs.Store.{writePlan, discardPlan}
 use Rattle.qcow2_spec.specs.Check.{verdict, repairPlan}
+use Rattle.qcow2_spec.specs.declared.Listed.the-variants.{Refused, Rows}
 use Rattle.qcow2_spec.specs.declared.Verdict.the-variants.{Sound, Leaks}
 use Rattle.bench_table.specs.Bench.{bench, benchWith, marked}
 
@@ -93,6 +95,24 @@ pub record Cleared (store : Plan → ℕ → List ℕ → List ℕ) (five : List
   pub no-leak : planUnits (repairPlan (marked 3) 16) ≡ []
   pub version-2 : cost (writePlan (marked 2) 33285 five) ≡ 1028
 
+-- the image with guest clusters 64 and 65 in host clusters 6 and 5, and with bit 0 set in the entry of cluster 65
+unfoldable pub turned : (Plan → ℕ → List ℕ → List ℕ) → List ℕ → ℕ → List ℕ
+turned store five x = store (writePlan (written store five 1028) 32768 (x ∷ [])) 514 (written store five 1028)
+
+unfoldable pub stale : (Plan → ℕ → List ℕ → List ℕ) → List ℕ → List ℕ
+stale store five = sets (written store five 1028) 2063 (1 ∷ [])
+
+-- runs of guest bytes: their kind, host offset and length
+pub record Runs (store : Plan → ℕ → List ℕ → List ℕ) (five : List ℕ) (x y z : ℕ) : Type 0 where
+  pub none : listRuns bench 65536 0 2 ≡ Rows 0
+  pub past : listRuns bench 65536 1 2 ≡ Refused 11
+  pub last : listRuns bench 65533 3 2 ≡ Rows 1
+  pub absent : runRows bench 65533 3 2 ≡ 1003 ∷ 0 ∷ 3 ∷ []
+  pub begins : runRows (written store five 1028) 33278 4 2 ≡ 1003 ∷ 0 ∷ 2 ∷ 0 ∷ 2560 ∷ 2 ∷ []
+  pub apart : runRows (turned store five x) 33278 4 2 ≡ 0 ∷ 3582 ∷ 2 ∷ 0 ∷ 2560 ∷ 2 ∷ []
+  pub no-room : runRows (turned store five x) 33278 4 1 ≡ 0 ∷ 3582 ∷ 2 ∷ []
+  pub marks : runRows (stale store five) 33790 4 2 ≡ 1002 ∷ 0 ∷ 2 ∷ 1003 ∷ 0 ∷ 2 ∷ []
+
 -- the starred lines
 pub record Starred (store : Plan → ℕ → List ℕ → List ℕ) (five : List ℕ) (x y z : ℕ) : Type 0 where
   pub stored : Stored store five x y z
@@ -104,6 +124,7 @@ pub record Starred (store : Plan → ℕ → List ℕ → List ℕ) (five : List
   pub full : Full store five x y z
   pub edges : Edges store five x y z
   pub cleared : Cleared store five x y z
+  pub runs : Runs store five x y z
 
 -- the lines on the header
 pub record Headers : Type 0 where

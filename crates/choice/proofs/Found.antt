@@ -82,3 +82,12 @@ module _ (p : ℕ → Bool) where
           let q : first p i (suc k) ≡ first p (suc i) k = if-no (p i) i _ d in
           let n : i ≡ x → ⊥ = λ z. let c : _≡_ {A = Bool} true false = sym e ∙ ap p (sym z) ∙ d in let w : _≡_ {A = ℕ} 0 1 = cc in omega arith in
           omega (arith, r (omega arith))
+
+  -- what a search finds passes the test
+  pub first-passes : (i k : ℕ) → first p i k < i + k → p (first p i k) ≡ true
+  first-passes i zero h = absurd (omega arith)
+  first-passes i (suc k) h = go (two-ways (p i)) (λ l. first-passes (suc i) k l)
+    where
+      go : (p i ≡ true) ⊎ (p i ≡ false) → (first p (suc i) k < suc i + k → p (first p (suc i) k) ≡ true) → p (first p i (suc k)) ≡ true
+      go (inl e) r = let q : first p i (suc k) ≡ i = if-yes (p i) i _ e in rw q e
+      go (inr e) r = let q : first p i (suc k) ≡ first p (suc i) k = if-no (p i) i _ e in rw q (r (omega arith))

@@ -1,38 +1,50 @@
-// What the small program writes of an image. Paper 01, "The bench image".
+// How the small program reads an image, and what it writes of it. Paper 01, "The bench image". What writes answers whether all
+// was written, and stops at the first write that fails.
+mod input;
+
 ghost use Prim.Native.Nat.{_≤_};
 ghost use Rattle.qcow2_spec.specs.Opened.{Opened};
 ghost use Rattle.qcow2_spec.specs.Header.{mostBits};
+use input::Input;
 use qcow2_spec::Geometry;
 use qcow2_spec::Judged;
 use qcow2_spec::Verdict;
 
 // A field: a tab and a number.
-fn field(fd: i32, n: u64) {
-    io::write_all(fd, b"\t");
-    io::print_decimal(fd, n);
+fn field(fd: i32, n: u64) -> bool {
+    io::write_all(fd, b"\t") && io::print_decimal(fd, n)
 }
 
-fn refused(fd: i32, k: u8) {
-    io::write_all(fd, b"refused");
-    field(fd, k as u64);
-    io::write_all(fd, b"\n");
+fn no_field(fd: i32) -> bool {
+    io::write_all(fd, b"\t-")
 }
 
-// Version, cluster size, clusters, disk size and L1 entries.
-fn image_line(fd: i32, g: Geometry)
+fn line_end(fd: i32) -> bool {
+    io::write_all(fd, b"\n")
+}
+
+fn refused(fd: i32, k: u8) -> bool {
+    io::write_all(fd, b"refused") && field(fd, k as u64) && line_end(fd)
+}
+
+// Cluster size, clusters, disk size and L1 entries.
+fn sizes(fd: i32, g: Geometry) -> bool
     requires { ⌜ g .bits ≤ mostBits ⌝ }
 {
-    io::write_all(fd, b"image");
-    field(fd, g.version as u64);
-    field(fd, power::power(g.bits));
-    field(fd, g.clusters as u64);
-    field(fd, g.size);
-    field(fd, g.rows as u64);
-    io::write_all(fd, b"\n");
+    field(fd, power::power(g.bits))
+        && field(fd, g.clusters as u64)
+        && field(fd, g.size)
+        && field(fd, g.rows as u64)
+}
+
+fn image_line(fd: i32, g: Geometry) -> bool
+    requires { ⌜ g .bits ≤ mostBits ⌝ }
+{
+    io::write_all(fd, b"image") && field(fd, g.version as u64) && sizes(fd, g) && line_end(fd)
 }
 
 // The leaked clusters: none where the image is sound, and no number where it is damaged.
-fn leaked(fd: i32, v: Verdict) {
+fn leaked(fd: i32, v: Verdict) -> bool {
     match v {
         Verdict::Sound => field(fd, 0),
         Verdict::Leaks(n) => field(fd, n as u64),
@@ -44,72 +56,46 @@ fn leaked(fd: i32, v: Verdict) {
     }
 }
 
-fn no_field(fd: i32) {
-    io::write_all(fd, b"\t-");
-}
-
 // Counts that are not 0, counts that are 0, and leaked clusters.
-fn clusters_line(fd: i32, used: usize, free: usize, v: Verdict) {
-    io::write_all(fd, b"clusters");
-    field(fd, used as u64);
-    field(fd, free as u64);
-    leaked(fd, v);
-    io::write_all(fd, b"\n");
+fn clusters_line(fd: i32, used: usize, free: usize, v: Verdict) -> bool {
+    io::write_all(fd, b"clusters")
+        && field(fd, used as u64)
+        && field(fd, free as u64)
+        && leaked(fd, v)
+        && line_end(fd)
 }
 
 // A damaged image, with what is named.
-fn entry_words(fd: i32, i: usize) {
-    io::write_all(fd, b"\tdamaged\tentry");
-    field(fd, i as u64);
+fn entry_words(fd: i32, i: usize) -> bool {
+    io::write_all(fd, b"\tdamaged\tentry") && field(fd, i as u64)
 }
 
-fn verdict_words(fd: i32, v: Verdict) {
+fn verdict_words(fd: i32, v: Verdict) -> bool {
     match v {
-        Verdict::Sound => {
-            io::write_all(fd, b"\tsound");
-        }
-        Verdict::Leaks(n) => {
-            io::write_all(fd, b"\tleaks");
-            field(fd, n as u64);
-        }
-        Verdict::BadL1(i) => {
-            entry_words(fd, i);
-            no_field(fd);
-        }
-        Verdict::BadL2(i, j) => {
-            entry_words(fd, i);
-            field(fd, j as u64);
-        }
-        Verdict::Shared(k) => {
-            io::write_all(fd, b"\tdamaged\tshared");
-            field(fd, k as u64);
-        }
-        Verdict::Short(k) => {
-            io::write_all(fd, b"\tdamaged\tshort");
-            field(fd, k as u64);
-        }
+        Verdict::Sound => io::write_all(fd, b"\tsound"),
+        Verdict::Leaks(n) => io::write_all(fd, b"\tleaks") && field(fd, n as u64),
+        Verdict::BadL1(i) => entry_words(fd, i) && no_field(fd),
+        Verdict::BadL2(i, j) => entry_words(fd, i) && field(fd, j as u64),
+        Verdict::Shared(k) => io::write_all(fd, b"\tdamaged\tshared") && field(fd, k as u64),
+        Verdict::Short(k) => io::write_all(fd, b"\tdamaged\tshort") && field(fd, k as u64),
         Verdict::Refused(k) => field(fd, k as u64),
     }
 }
 
-fn verdict_line(fd: i32, v: Verdict) {
-    io::write_all(fd, b"verdict");
-    verdict_words(fd, v);
-    io::write_all(fd, b"\n");
+fn verdict_line(fd: i32, v: Verdict) -> bool {
+    io::write_all(fd, b"verdict") && verdict_words(fd, v) && line_end(fd)
 }
 
 // The three lines of an accepted image.
-fn accepted(fd: i32, image: &[u8], g: Geometry, v: Verdict)
+fn accepted(fd: i32, image: &[u8], g: Geometry, v: Verdict) -> bool
     requires { ⌜ Opened g (now image) ⌝ }
 {
     let free = qcow2_check::free_clusters(image, g);
-    image_line(fd, g);
-    clusters_line(fd, g.clusters - free, free, v);
-    verdict_line(fd, v);
+    image_line(fd, g) && clusters_line(fd, g.clusters - free, free, v) && verdict_line(fd, v)
 }
 
 // Writes what is to be said of an image. The scratch has a byte for each cluster of it.
-pub fn report(fd: i32, image: &[u8], scratch: &mut [u8]) {
+fn report(fd: i32, image: &[u8], scratch: &mut [u8]) -> bool {
     let v = qcow2::check(image, scratch);
     let j = qcow2_header::judge(image);
     match j {
@@ -118,7 +104,25 @@ pub fn report(fd: i32, image: &[u8], scratch: &mut [u8]) {
     }
 }
 
-// Writes that the input is too long.
-pub fn report_long(fd: i32) {
-    io::write_all(fd, b"refused\tlong\n");
+// The same for input that may be too long.
+fn report_read(fd: i32, input: &[u8], scratch: &mut [u8]) -> bool {
+    if 65536 < input.len() {
+        io::write_all(fd, b"refused\tlong\n")
+    } else {
+        report(fd, input, scratch)
+    }
+}
+
+// Reads an image of at most 65,536 bytes from one descriptor and writes what is to be said of it to another. Where a read or a
+// write fails, standard error says so; a failed read leaves nothing written.
+pub fn tell(from: i32, name: &[u8], to: i32) {
+    let mut input = [0u8; 65537];
+    let mut scratch = [0u8; 128];
+    let Input::Bytes(n) = input::read_image(from, &mut input) else {
+        os::fail(name);
+        return;
+    };
+    if !report_read(to, &input[..n], &mut scratch) {
+        os::fail(b"standard output");
+    }
 }

@@ -7,15 +7,8 @@ fn image(name: &[u8]) {
         os::fail(name);
         return;
     }
-    let mut input = [0u8; 65537];
-    let mut scratch = [0u8; 128];
-    let n = io::read_full(fd, &mut input);
+    image_report::tell(fd, name, STDOUT_FILENO);
     libc::close(fd);
-    if 65536 < n {
-        image_report::report_long(STDOUT_FILENO);
-        return;
-    }
-    image_report::report(STDOUT_FILENO, &input[..n], &mut scratch);
 }
 
 // Argument i.

@@ -10,9 +10,11 @@ use Rattle.units.specs.declared.Outcome.the-variants.{Refused as NotDone}
 use Rattle.units.proofs.Steps.{refusal}
 use Rattle.qcow2_spec.specs.declared.Judged.the-variants.{Refused as Turned}
 use Rattle.qcow2_spec.specs.declared.Found.the-variants.{Refused}
+use Rattle.qcow2_spec.specs.declared.Listed.the-variants.{Refused as NotListed}
 use Rattle.qcow2_spec.specs.declared.Verdict.the-variants.{Refused as NotChecked}
 use Rattle.qcow2_spec.specs.Opened.{opened}
 use Rattle.qcow2_spec.specs.Guest.{translate, readNumber, readInto, foundPart, inPlace}
+use Rattle.qcow2_spec.specs.Runs.{runsNumber, listRuns, runsInto}
 use Rattle.qcow2_spec.specs.Store.{clearing, judged, writePlan, discardPlan}
 use Rattle.qcow2_spec.specs.References.{scratchLeft}
 use Rattle.qcow2_spec.specs.Check.{check, repairPlan}
@@ -38,6 +40,18 @@ module _ (s : List ℕ) (k : ℕ) (e : opened s ≡ Turned k) where
   pub place-refused : (x : ℕ) → inPlace s x ≡ []
   unfolding inPlace foundPart
   place-refused x = rw (translate-refused x)
+
+  runs-number : (x len : ℕ) → runsNumber s x len ≡ k
+  unfolding runsNumber
+  runs-number x len = rw (refused-is s k e .0) (unless-refused k (λ n. n) _ (refused-is s k e .1))
+
+  pub runs-refused : (x len n : ℕ) → listRuns s x len n ≡ NotListed k
+  unfolding listRuns
+  runs-refused x len n = rw (runs-number x len) (unless-refused k NotListed _ (refused-is s k e .1))
+
+  pub rows-refused : (x len : ℕ) (o : List ℕ) → runsInto s x len o ≡ o
+  unfolding runsInto
+  rows-refused x len o = rw (runs-number x len, ne-eqb k 0 (refused-is s k e .1))
 
   pub check-refused : (n : ℕ) → check s n ≡ NotChecked k
   unfolding check

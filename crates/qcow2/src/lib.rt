@@ -1,14 +1,17 @@
 // The calls on a qcow2 image: read, write, discard, check and repair over lent bytes. Each judges the header afresh, takes any
 // bytes and any numbers, and asks nothing of its caller. What an answer means is in qcow2_spec/specs/.
 ghost use mathlib.Core.Path.{_≡_};
+ghost use Prim.Native.Nat.{_/_};
 ghost use lib.ListN.{length};
 ghost use Rattle.units.specs.Plan.{Done};
 ghost use Rattle.qcow2_spec.specs.Guest.{translate as translation, readNumber, readInto, inPlace};
+ghost use Rattle.qcow2_spec.specs.Runs.{listRuns, runsInto};
 ghost use Rattle.qcow2_spec.specs.Store.{writePlan, discardPlan};
 ghost use Rattle.qcow2_spec.specs.References.{scratchLeft};
 ghost use Rattle.qcow2_spec.specs.Check.{check as checked, repairPlan};
 use qcow2_spec::Found;
 use qcow2_spec::Judged;
+use qcow2_spec::Listed;
 use qcow2_spec::Verdict;
 use units::Outcome;
 
@@ -45,6 +48,18 @@ pub fn lookup<'a>(image: &'a [u8], x: u64) -> &'a [u8]
     match j {
         Judged::Refused(_) => &image[..0],
         Judged::Accepted(g) => qcow2_guest::reading::part_in(image, g, x),
+    }
+}
+
+// Lists the runs of the len guest bytes from x on in rows, three numbers a run, as many as there is room for, and answers how many;
+// or answers a number from 1 to 11 or 18 and leaves rows alone.
+pub fn runs(image: &[u8], x: u64, len: u64, rows: &mut [u64]) -> Listed
+    ensures { λ r. ⌜ (r ≡ listRuns (now (image .entry)) x len (length (now (rows .entry)) / 3)) × (now (rows .exit) ≡ runsInto (now (image .entry)) x len (now (rows .entry))) ⌝ }
+{
+    let j = qcow2_header::judge(image);
+    match j {
+        Judged::Refused(k) => Listed::Refused(k),
+        Judged::Accepted(g) => qcow2_runs::listed(image, g, x, len, rows),
     }
 }
 

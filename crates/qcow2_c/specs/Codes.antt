@@ -3,23 +3,19 @@
 use Prim.Native.Nat.{ℕ}
 use Rattle.units.specs.declared.Outcome.{Outcome}
 use Rattle.units.specs.declared.Outcome.the-variants.{Finished, Stopped, Refused as NotDone}
-use Rattle.qcow2_spec.specs.declared.Found.{Found}
-use Rattle.qcow2_spec.specs.declared.Found.the-variants.{Host, Zeros, Absent, Refused as NotFound}
+use Rattle.qcow2_spec.specs.declared.Listed.{Listed}
+use Rattle.qcow2_spec.specs.declared.Listed.the-variants.{Refused as NotListed, Rows}
 use Rattle.qcow2_spec.specs.declared.Verdict.{Verdict}
 use Rattle.qcow2_spec.specs.declared.Verdict.the-variants.{Sound, Leaks, BadL1, BadL2, Shared, Short, Refused as NotChecked}
 
--- a translation: 0 with a host offset, zeros, not allocated, or the number
-abbrev pub foundCode : Found → ℕ
-foundCode (Host h) = 0
-foundCode Zeros = 1002
-foundCode Absent = 1003
-foundCode (NotFound k) = k
+-- a listing of runs: 0, or the number; and how many were listed
+abbrev pub listedCode : Listed → ℕ
+listedCode (NotListed k) = k
+listedCode (Rows n) = 0
 
-abbrev pub foundHost : Found → ℕ
-foundHost (Host h) = h
-foundHost Zeros = 0
-foundHost Absent = 0
-foundHost (NotFound k) = 0
+abbrev pub listedRows : Listed → ℕ
+listedRows (NotListed k) = 0
+listedRows (Rows n) = n
 
 -- a write, discard or repair: 0 finished, stopped, or the number; and the units spent
 abbrev pub outcomeCode : Outcome → ℕ

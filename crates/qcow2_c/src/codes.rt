@@ -1,29 +1,25 @@
 // Each answer as a number, with the values beside it.
 ghost use mathlib.Core.Path.{_≡_};
-ghost use Rattle.qcow2_c.specs.Codes.{foundCode, foundHost, outcomeCode, outcomeUnits, verdictCode, verdictFirst, verdictSecond};
-use qcow2_spec::Found;
+ghost use Rattle.qcow2_c.specs.Codes.{listedCode, listedRows, outcomeCode, outcomeUnits, verdictCode, verdictFirst, verdictSecond};
+use qcow2_spec::Listed;
 use qcow2_spec::Verdict;
 use units::Outcome;
 
-pub(crate) fn found_code(f: Found) -> u32
-    ensures { λ r. ⌜ r ≡ foundCode f ⌝ }
+pub(crate) fn listed_code(l: Listed) -> u32
+    ensures { λ r. ⌜ r ≡ listedCode l ⌝ }
 {
-    match f {
-        Found::Host(_) => 0,
-        Found::Zeros => 1002,
-        Found::Absent => 1003,
-        Found::Refused(k) => k as u32,
+    match l {
+        Listed::Refused(k) => k as u32,
+        Listed::Rows(_) => 0,
     }
 }
 
-pub(crate) fn found_host(f: Found) -> u64
-    ensures { λ r. ⌜ r ≡ foundHost f ⌝ }
+pub(crate) fn listed_rows(l: Listed) -> u64
+    ensures { λ r. ⌜ r ≡ listedRows l ⌝ }
 {
-    match f {
-        Found::Host(h) => h,
-        Found::Zeros => 0,
-        Found::Absent => 0,
-        Found::Refused(_) => 0,
+    match l {
+        Listed::Refused(_) => 0,
+        Listed::Rows(n) => n as u64,
     }
 }
 

@@ -1,13 +1,15 @@
 // The calls for programs in C or Rust: numbers and byte slices only. include/qcow2_core.h declares them.
 ghost use mathlib.Core.Path.{_≡_};
+ghost use Prim.Native.Nat.{_/_};
 ghost use lib.ListN.{length};
 ghost use Rattle.tally.specs.Tally.{difference};
 ghost use Rattle.units.specs.Plan.{outcome, after};
 ghost use Rattle.qcow2_spec.specs.Guest.{translate, readNumber, readInto, inPlace};
+ghost use Rattle.qcow2_spec.specs.Runs.{foundCode, foundHost, listRuns, runsInto};
 ghost use Rattle.qcow2_spec.specs.Store.{writePlan, discardPlan};
 ghost use Rattle.qcow2_spec.specs.References.{scratchLeft};
 ghost use Rattle.qcow2_spec.specs.Check.{check, repairPlan};
-ghost use Rattle.qcow2_c.specs.Codes.{foundCode, foundHost, outcomeCode, outcomeUnits, verdictCode, verdictFirst, verdictSecond};
+ghost use Rattle.qcow2_c.specs.Codes.{listedCode, listedRows, outcomeCode, outcomeUnits, verdictCode, verdictFirst, verdictSecond};
 
 mod codes;
 
@@ -16,8 +18,8 @@ pub extern "C" fn qcow2_translate(image: &[u8], offset: u64, host: &mut u64) -> 
     ensures { λ r. ⌜ (r ≡ foundCode (translate (now (image .entry)) offset)) × (now (host .exit) ≡ foundHost (translate (now (image .entry)) offset)) ⌝ }
 {
     let f = qcow2::translate(image, offset);
-    *host = codes::found_host(f);
-    codes::found_code(f)
+    *host = qcow2_runs::codes::found_host(f);
+    qcow2_runs::codes::found_code(f)
 }
 
 #[no_mangle]
@@ -33,6 +35,22 @@ pub extern "C" fn qcow2_lookup(image: &[u8], offset: u64) -> usize
     ensures { λ r. ⌜ r ≡ length (inPlace (now (image .entry)) offset) ⌝ }
 {
     qcow2::lookup(image, offset).len()
+}
+
+// The runs of the len guest bytes from the offset on, three numbers each.
+#[no_mangle]
+pub extern "C" fn qcow2_runs(
+    image: &[u8],
+    offset: u64,
+    len: u64,
+    rows: &mut [u64],
+    count: &mut u64,
+) -> u32
+    ensures { λ r. ⌜ ((r ≡ listedCode (listRuns (now (image .entry)) offset len (length (now (rows .entry)) / 3))) × (now (count .exit) ≡ listedRows (listRuns (now (image .entry)) offset len (length (now (rows .entry)) / 3)))) × (now (rows .exit) ≡ runsInto (now (image .entry)) offset len (now (rows .entry))) ⌝ }
+{
+    let l = qcow2::runs(image, offset, len, rows);
+    *count = codes::listed_rows(l);
+    codes::listed_code(l)
 }
 
 #[no_mangle]

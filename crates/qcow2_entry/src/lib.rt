@@ -4,10 +4,11 @@ ghost use Prim.Native.Nat.{_+_, _*_, _^_, _<_, _≤_};
 ghost use mathlib.Core.Bool.{not, _||_};
 ghost use lib.Dec.{eqb};
 ghost use lib.ListN.{length};
+ghost use Rattle.choice.specs.Pick.{if_then_else_};
 ghost use Rattle.endian.specs.Big.{be64};
 ghost use Rattle.qcow2_spec.specs.Entries.{place, goodPlace, goodL1, goodL2, compressed, zeroMark};
 ghost use Rattle.qcow2_spec.specs.Guest.{entryWay, entryGives};
-ghost use Rattle.qcow2_entry.specs.Plain.{plain};
+ghost use Rattle.qcow2_entry.specs.Plain.{plain, marked, entryFound};
 ghost use Rattle.qcow2_spec.specs.Header.{mostBits, mostLength};
 use qcow2_spec::Found;
 use qcow2_spec::Way;
@@ -136,4 +137,54 @@ pub fn gives(e: u64, o: u64) -> Found
         return Found::Absent;
     }
     Found::Host(p + o)
+}
+
+// Whether an entry has the zero mark by right: alone, or with a place.
+pub fn is_marked(e: u64, version: u32, n: u64, bits: u32) -> bool
+    requires { ⌜ (bits ≤ mostBits) × (2 ^ bits ≤ n) ⌝ }
+    ensures { λ r. ⌜ r ≡ marked version (2 ^ bits) n e ⌝ }
+{
+    if version != 3 {
+        return false;
+    }
+    if e == 0 {
+        return false;
+    }
+    if e == 1 {
+        return true;
+    }
+    is_plain(e - 1, n, bits)
+}
+
+// The number of an entry that is refused. By comparisons, since a test of one bit would split the load of the entry.
+fn refusal(e: u64) -> u8
+    ensures { λ r. ⌜ r ≡ (if compressed e then 13 else 12) ⌝ }
+{
+    if e >= 13835058055282163712 {
+        return 13;
+    }
+    if e >= 9223372036854775808 {
+        return 12;
+    }
+    if e >= 4611686018427387904 {
+        return 13;
+    }
+    12
+}
+
+// What an L2 entry of an image of n bytes gives for byte o of its cluster, good or not. The usual entries first, as whole numbers.
+pub fn found(e: u64, o: u64, version: u32, n: u64, bits: u32) -> Found
+    requires { ⌜ (((9 ≤ bits) × (bits ≤ mostBits)) × ((2 ^ bits ≤ n) × (n ≤ mostLength))) × (o < 2147483648) ⌝ }
+    ensures { λ r. ⌜ r ≡ entryFound version (2 ^ bits) n e o ⌝ }
+{
+    if is_plain(e, n, bits) {
+        return Found::Host(e - 9223372036854775808 + o);
+    }
+    if e == 0 {
+        return Found::Absent;
+    }
+    if is_marked(e, version, n, bits) {
+        return Found::Zeros;
+    }
+    Found::Refused(refusal(e))
 }

@@ -12,6 +12,7 @@ use Rattle.endian.specs.Big.{be64, part, splice}
 use Rattle.qcow2_spec.specs.Header.{clusterSize, perTable}
 use Rattle.qcow2_spec.specs.Entries.{place, goodL1}
 use Rattle.qcow2_spec.specs.Guest.{l1Entry, l1EntryAt, entryWay, l2Way, way, wayGives, located, foundByte, guestByte, guestBytes}
+use Rattle.qcow2_spec.specs.Runs.{moved}
 use Rattle.qcow2_spec.specs.Opened.{Opened}
 use Rattle.qcow2_spec.specs.declared.Geometry.{Geometry}
 use Rattle.qcow2_spec.specs.declared.Found.{Found}
@@ -24,7 +25,7 @@ use Rattle.qcow2_entry.specs.Plain.{plain}
 use Rattle.qcow2_entry.proofs.Plain.{plain-way, plain-gives, other-gives}
 use Rattle.qcow2_guest.specs.Rows.{Below, tableOf, rowLeft}
 use Rattle.qcow2_guest.proofs.Numbers.{div-mono}
-use Rattle.qcow2_guest.proofs.Pieces.{moved, same-cluster, written}
+use Rattle.qcow2_guest.proofs.Pieces.{same-cluster, written}
 use Rattle.qcow2_guest.proofs.Steps.{table-entry, located-at}
 
 -- ---- a later part
@@ -58,7 +59,7 @@ module _ (g : Geometry) (s : List ℕ) (o : Opened g s) (t x : ℕ) (b : Below s
         let d : e ≡ be64 (part s t (2 ^ g .bits)) (8 * i) = q ∙ sym (part8 s t (2 ^ g .bits) (8 * i) (rw (o .is-cluster) inside)) in
         v ∙ sym (rw d (table-entry g s o t (x / 2 ^ g .bits) i p))
 
-    found : wayGives (entryWay (g .version) (2 ^ g .bits) (length s) (t + 8 * i) e) (x % 2 ^ g .bits) ≡ located s x
+    pub found : wayGives (entryWay (g .version) (2 ^ g .bits) (length s) (t + 8 * i) e) (x % 2 ^ g .bits) ≡ located s x
     found = located-at g s o x (x / 2 ^ g .bits) (x % 2 ^ g .bits) _ refl refl way-at
 
     pub plain-found : plain (2 ^ g .bits) (length s) e ≡ true → located s x ≡ Host (e - 2 ^ 63 + x % 2 ^ g .bits)
@@ -125,12 +126,16 @@ no-byte s Absent n = refl
 no-byte s (Refused k) n = refl
 
 module _ (g : Geometry) (s : List ℕ) (o : Opened g s) (x n : ℕ) (h : n ≤ rowLeft (2 ^ g .bits) (2 ^ (g .bits - 3)) x) where
-  same-table : (i : ℕ) → i < n → tableOf s ((x + i) / clusterSize s) ≡ tableOf s (x / clusterSize s)
-  unfolding tableOf l1Entry l1EntryAt
-  same-table i l =
+  pub same-row : (i : ℕ) → i < n → l1Entry s ((x + i) / clusterSize s) ≡ l1Entry s (x / clusterSize s)
+  unfolding l1Entry l1EntryAt
+  same-row i l =
       let f = facts s (o .accepted) in
       let k : n ≤ rowLeft (clusterSize s) (perTable s) x = rw (o .is-cluster, o .is-per) at h in
       rw (later-cluster (clusterSize s) (perTable s) x i (c-pos s f) (e-pos s f) (omega arith))
+
+  same-table : (i : ℕ) → i < n → tableOf s ((x + i) / clusterSize s) ≡ tableOf s (x / clusterSize s)
+  unfolding tableOf
+  same-table i l = rw (same-row i l)
 
   pub row-below : (tableOf s (x / 2 ^ g .bits) ≡ 0 → ⊥) → Below s (tableOf s (x / 2 ^ g .bits)) x n
   row-below z =

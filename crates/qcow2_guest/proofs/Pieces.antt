@@ -20,6 +20,7 @@ use Rattle.endian.proofs.Laws.{splice-whole}
 use Rattle.qcow2_spec.specs.Header.{clusterSize, diskSize}
 use Rattle.qcow2_spec.specs.Entries.{place, zeroMark}
 use Rattle.qcow2_spec.specs.Guest.{way, entryGives, wayGives, located, translate, foundByte, guestByte, guestBytes, foundPart, inPlace}
+use Rattle.qcow2_spec.specs.Runs.{moved}
 use Rattle.qcow2_spec.specs.Opened.{Opened}
 use Rattle.qcow2_spec.specs.declared.Geometry.{Geometry}
 use Rattle.qcow2_spec.specs.declared.Found.{Found}
@@ -41,13 +42,7 @@ same-rest C x i h =
     let e : (x + i) / C * C ≡ x / C * C = ap (λ (q : ℕ). q * C) (same-cluster C x i h) in
     omega (arith, div-add-mod' x C, div-add-mod' (x + i) C)
 
--- what lies i bytes on
-abbrev pub moved : Found → ℕ → Found
-moved (Host h) i = Host (h + i)
-moved Zeros i = Zeros
-moved Absent i = Absent
-moved (Refused k) i = Refused k
-
+-- ---- what lies i bytes on
 entry-moved : (a b : Bool) (p o i : ℕ) → (if a then Zeros else if b then Absent else Host (p + (o + i))) ≡ moved (if a then Zeros else if b then Absent else Host (p + o)) i
 entry-moved true b p o i = refl
 entry-moved false true p o i = refl
@@ -59,10 +54,14 @@ way-moved (Bad k) o i = refl
 way-moved NoTable o i = refl
 way-moved (Slot a e) o i = entry-moved (zeroMark e) (eqb (place e) 0) (place e) o i
 
-byte-moved : (s : List ℕ) (x i : ℕ) → x % clusterSize s + i < clusterSize s → guestByte s (x + i) ≡ foundByte s (moved (located s x) i)
-unfolding guestByte located
-byte-moved s x i h =
+pub located-moved : (s : List ℕ) (x i : ℕ) → x % clusterSize s + i < clusterSize s → located s (x + i) ≡ moved (located s x) i
+unfolding located
+located-moved s x i h =
     rw (same-cluster (clusterSize s) x i h, same-rest (clusterSize s) x i h, way-moved (way s (x / clusterSize s)) (x % clusterSize s) i)
+
+byte-moved : (s : List ℕ) (x i : ℕ) → x % clusterSize s + i < clusterSize s → guestByte s (x + i) ≡ foundByte s (moved (located s x) i)
+unfolding guestByte
+byte-moved s x i h = ap (foundByte s) (located-moved s x i h)
 
 -- a part l of the output that gets the bytes b
 pub written : (s : List ℕ) (x : ℕ) (l b : List ℕ) → length b ≡ length l → ((i : ℕ) → i < length l → guestByte s (x + i) ≡ getD b i 0) → splice l 0 b ≡ guestBytes s x (length l)

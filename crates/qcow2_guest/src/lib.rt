@@ -13,7 +13,7 @@ mod range;
 pub mod reading;
 
 // How much of what is left, from x on, comes before the next multiple of a power of two.
-pub(crate) fn piece(x: u64, left: usize, bits: u32) -> usize
+pub fn piece(x: u64, left: usize, bits: u32) -> usize
     requires { ⌜ bits ≤ mostBits ⌝ }
     ensures { λ r. ⌜ r ≡ min (2 ^ bits - x % 2 ^ bits) left ⌝ }
 {
@@ -22,7 +22,7 @@ pub(crate) fn piece(x: u64, left: usize, bits: u32) -> usize
 }
 
 // The L1 entry of a guest cluster.
-fn l1_entry(image: &[u8], g: Geometry, guest: u64) -> u64
+pub fn l1_entry(image: &[u8], g: Geometry, guest: u64) -> u64
     requires { ⌜ (Opened g (now image)) × (guest / perTable (now image) < l1Size (now image)) ⌝ }
     ensures { λ r. ⌜ r ≡ l1Entry (now (image .entry)) guest ⌝ }
 {

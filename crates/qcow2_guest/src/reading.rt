@@ -85,7 +85,7 @@ fn read_row(image: &[u8], g: Geometry, x: u64, part: &mut [u8])
 }
 
 // How many of the bytes that are left have the L1 entry of x.
-fn row_left(x: u64, left: usize, bits: u32) -> usize
+pub fn row_left(x: u64, left: usize, bits: u32) -> usize
     requires { ⌜ (3 ≤ bits) × (bits ≤ mostBits) ⌝ }
     ensures { λ r. ⌜ r ≡ min (rowLeft (2 ^ bits) (2 ^ (bits - 3)) x) left ⌝ }
 {

@@ -12,3 +12,4 @@ pub mod Plans
 pub mod Series
 pub mod Difference
 pub mod Room
+pub mod Runs

@@ -3,6 +3,7 @@ pub mod Entries
 pub mod References
 pub mod Counts
 pub mod Guest
+pub mod Runs
 pub mod Store
 pub mod Check
 pub mod Disk

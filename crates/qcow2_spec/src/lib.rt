@@ -15,6 +15,12 @@ pub enum Way {
     Slot(usize, u64),
 }
 
+// What a listing of runs says: a number, or how many were listed.
+pub enum Listed {
+    Refused(u8),
+    Rows(usize),
+}
+
 // What a check says. An L1 entry is named by its index, an L2 entry by both indices.
 pub enum Verdict {
     Sound,

@@ -15,11 +15,19 @@ free-clusters-requires c κs = c .before .pre
 sub-clusters-line : tie.Need-sub-clusters-line
 unfolding free
 sub-clusters-line c =
-    let b = c .before .before .before .before in
+    let b = c .before .before .before .before .before in
     let s = now (b .args .image) in
     let m : free s ≤ clusters s = count-most (freeAt s) 0 (clusters s) in
-    omega (arith, m, c .before .before .free-clusters .ensures, b .pre .is-clusters)
+    omega (arith, m, c .before .before .before .free-clusters .ensures, b .pre .is-clusters)
 
 pub accepted-spec : {M : Type 1} → statement M
 accepted-spec =
-    tie.close (tie.spec free-clusters-requires (search needs) sub-clusters-line (search needs) (search needs) (search needs))
+    tie.close
+    (tie.spec
+    free-clusters-requires
+    (search needs)
+    sub-clusters-line
+    (search needs)
+    (search needs)
+    (search needs)
+    (search needs))

@@ -1,6 +1,6 @@
 use mathlib.Core.Path.{ap, _∙_}
 use borrow.Author.Needs.{needs}
-use Rattle.qcow2_c.specs.Codes.{foundCode, foundHost}
+use Rattle.qcow2_spec.specs.Runs.{foundCode, foundHost}
 use Rattle.qcow2_c.proofs.qcow2_translate.Statement.{statement}
 use Rattle.qcow2_c.proofs.qcow2_translate.Tie as tie
 

@@ -1,0 +1,33 @@
+use Prim.Native.Nat.{_/_}
+use mathlib.Core.Path.{_≡_, sym}
+use lib.ListN.{length}
+use denote.Ref.{now}
+use borrow.Author.Needs.{needs}
+use Rattle.qcow2_spec.specs.declared.Judged.the-variants.{Refused, Accepted}
+use Rattle.qcow2_spec.specs.Opened.{opened}
+use Rattle.qcow2_spec.proofs.Open.{accepted-is}
+use Rattle.qcow2.proofs.Refusals.{runs-refused, rows-refused}
+use Rattle.qcow2.proofs.runs.Statement.{statement}
+use Rattle.qcow2.proofs.runs.Tie as tie
+
+listed-requires : tie.Need-listed-requires
+listed-requires c κs =
+    let s = now (c .before .before .before .before .before .before .before .args .image) in
+    let g = c .before .before .j2 .given .0 .0 in
+    let e : opened s ≡ Accepted g = cc in
+    accepted-is s g e
+
+returns : tie.Need-returns
+returns c =
+    let a = c .before .before .before .before .before .before .args in
+    let s = now (a .image) in
+    let o = now (a .rows) in
+    let k = c .before .j .given .0 .0 in
+    let e : opened s ≡ Refused k = cc in
+    (sym (runs-refused s k e (a .x) (a .len) (length o / 3)), sym (rows-refused s k e (a .x) (a .len) o))
+
+returns-2 : tie.Need-returns-2
+returns-2 c = c .before .before .listed .ensures
+
+pub runs-spec : {M : Type 1} → statement M
+runs-spec = tie.close (tie.spec (search needs) (search needs) (search needs) listed-requires returns (search needs) returns-2)

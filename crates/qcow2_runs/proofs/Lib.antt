@@ -1,0 +1,5 @@
+pub mod Entries
+pub mod Levels
+pub mod Below
+pub mod Stretches
+pub mod Listing

@@ -1,0 +1,41 @@
+use native.Mathlib.Omega.{arith}
+use mathlib.Core.Path.{sym, _∙_}
+use denote.Ref.{now}
+use lib.ListN.{length}
+use Rattle.qcow2_spec.proofs.Facts.{facts, c-in}
+use Rattle.qcow2_entry.proofs.Plain.{plain-parts}
+use Rattle.qcow2_runs.proofs.Levels.{is-empty, is-table, is-bad}
+use Rattle.qcow2_runs.proofs.rows.row_at.Statement.{statement}
+use Rattle.qcow2_runs.proofs.rows.row_at.Tie as tie
+
+l1-entry-requires : tie.Need-l1-entry-requires
+l1-entry-requires c κs = c .before .pre
+
+returns : tie.Need-returns
+returns c =
+    let b = c .before .before .before in
+    is-empty (b .args .g) (now (b .args .image)) (b .pre .0) (b .args .guest) _ (c .before .l1-entry .ensures) (c .if1 .taken)
+
+is-plain-requires : tie.Need-is-plain-requires
+is-plain-requires c κs =
+    let b = c .before .before .before in
+    let o = b .pre .0 in
+    (o .high, rw (o .is-cluster) (c-in (now (b .args .image)) (facts (now (b .args .image)) (o .accepted))))
+
+sub-t9 : tie.Need-sub-t9
+sub-t9 c =
+    let a = c .before .before .before .before .before .args in
+    omega (arith, plain-parts (a .g .bits) (length (now (a .image))) _ (sym (c .before .is-plain .ensures) ∙ c .if2 .taken) .high)
+
+returns-2 : tie.Need-returns-2
+returns-2 c =
+    let b = c .before .before .before .before .before in
+    is-table (b .args .g) (now (b .args .image)) (b .pre .0) (b .args .guest) _ (c .before .before .before .l1-entry .ensures) (sym (c .before .is-plain .ensures) ∙ c .if2 .taken)
+
+returns-3 : tie.Need-returns-3
+returns-3 c =
+    let b = c .before .before .before .before .before in
+    is-bad (b .args .g) (now (b .args .image)) (b .pre .0) (b .args .guest) _ (c .before .before .before .l1-entry .ensures) (sym (c .before .is-plain .ensures) ∙ c .if2 .left) (c .before .before .if1 .left)
+
+pub row-at-spec : {M : Type 1} → statement M
+row-at-spec = tie.close (tie.spec l1-entry-requires returns is-plain-requires sub-t9 returns-2 returns-3)

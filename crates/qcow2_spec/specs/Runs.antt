@@ -1,0 +1,85 @@
+-- Guest bytes that go on alike, as runs: all zeros by mark, all not allocated, all refused with one number, or at host offsets that
+-- go on one by one. Paper 01, "Reading".
+-- Assumes nothing.
+use Prim.Native.Nat.{ℕ, zero, suc, _+_, _-_, _/_}
+use mathlib.Core.Bool.{Bool, not, _&&_}
+use mathlib.Core.List.{List, [], _∷_, _++_}
+use lib.Dec.{eqb}
+use lib.ListN.{length}
+use Rattle.choice.specs.Pick.{if_then_else_, unless, first}
+use Rattle.endian.specs.Big.{splice}
+use Rattle.qcow2_spec.specs.Header.{judge}
+use Rattle.qcow2_spec.specs.Guest.{located, outside}
+use Rattle.qcow2_spec.specs.declared.Found.{Found}
+use Rattle.qcow2_spec.specs.declared.Found.the-variants.{Host, Zeros, Absent, Refused}
+use Rattle.qcow2_spec.specs.declared.Listed.{Listed}
+use Rattle.qcow2_spec.specs.declared.Listed.the-variants.{Refused as NotListed, Rows}
+
+-- a translation as a number: 0 with a host offset, zeros, not allocated, or its own number
+abbrev pub foundCode : Found → ℕ
+foundCode (Host h) = 0
+foundCode Zeros = 1002
+foundCode Absent = 1003
+foundCode (Refused k) = k
+
+-- its host offset; 0 where it has none
+abbrev pub foundHost : Found → ℕ
+foundHost (Host h) = h
+foundHost Zeros = 0
+foundHost Absent = 0
+foundHost (Refused k) = 0
+
+-- what lies i bytes on where a run goes on
+abbrev pub moved : Found → ℕ → Found
+moved (Host h) i = Host (h + i)
+moved Zeros i = Zeros
+moved Absent i = Absent
+moved (Refused k) i = Refused k
+
+-- which of the four a translation is, and the number in it
+abbrev pub foundKind : Found → ℕ
+foundKind (Host h) = 0
+foundKind Zeros = 1
+foundKind Absent = 2
+foundKind (Refused k) = 3
+
+abbrev pub foundNumber : Found → ℕ
+foundNumber (Host h) = h
+foundNumber Zeros = 0
+foundNumber Absent = 0
+foundNumber (Refused k) = k
+
+-- two translations are the same
+unfoldable pub sameFound : Found → Found → Bool
+sameFound a b = eqb (foundKind a) (foundKind b) && eqb (foundNumber a) (foundNumber b)
+
+-- byte x + i goes on alike from x
+unfoldable pub goesOn : List ℕ → (x i : ℕ) → Bool
+goesOn s x i = sameFound (located s (x + i)) (moved (located s x) i)
+
+-- how many of the len bytes from x on go on alike
+unfoldable pub runLength : List ℕ → (x len : ℕ) → ℕ
+runLength s x len = first (λ i. not (goesOn s x i)) 0 len
+
+-- a run as three numbers: its kind, its host offset and its length
+unfoldable pub runRow : Found → ℕ → List ℕ
+runRow f r = foundCode f ∷ foundHost f ∷ r ∷ []
+
+-- the runs of the len bytes from x on, one after the other, at most k of them
+unfoldable pub runRows : List ℕ → (x len k : ℕ) → List ℕ
+runRows s x len zero = []
+runRows s x len (suc k) =
+    if eqb len 0 then [] else
+    runRow (located s x) (runLength s x len) ++ runRows s (x + runLength s x len) (len - runLength s x len) k
+
+-- the number of a listing; 0 where it is accepted. A bad entry is a run of its own and no refusal
+unfoldable pub runsNumber : List ℕ → (x len : ℕ) → ℕ
+runsNumber s x len = unless (judge s) (λ k. k) (if outside s x len then 11 else 0)
+
+-- the answer: a number, or how many runs were listed
+unfoldable pub listRuns : List ℕ → (x len k : ℕ) → Listed
+listRuns s x len k = unless (runsNumber s x len) NotListed (Rows (length (runRows s x len k) / 3))
+
+-- what a listing leaves in its output, three numbers a run: the runs, then what was there; refused: nothing changes
+unfoldable pub runsInto : List ℕ → (x len : ℕ) → List ℕ → List ℕ
+runsInto s x len out = if eqb (runsNumber s x len) 0 then splice out 0 (runRows s x len (length out / 3)) else out
