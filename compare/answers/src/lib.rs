@@ -11,6 +11,51 @@ pub enum Found {
     Refused(u32),
 }
 
+impl Found {
+    /// What is found `i` bytes on where the guest bytes go on alike.
+    pub fn moved(self, i: u64) -> Found {
+        match self {
+            Found::Host(host) => Found::Host(host + i),
+            other => other,
+        }
+    }
+}
+
+/// Guest bytes that go on alike: what the first is, and how many they are.
+#[derive(Clone, Copy, Debug, PartialEq, Eq)]
+pub struct Run {
+    pub found: Found,
+    pub length: u64,
+}
+
+/// Kinds of a run in the calls' rows beside 0, for a host offset, and numbers.
+pub const ZEROS: u32 = 1002;
+pub const ABSENT: u32 = 1003;
+
+impl Run {
+    /// A run as a row of three numbers: kind, host offset (0 where there is
+    /// none), length.
+    pub fn row(self) -> [u64; 3] {
+        let (kind, host) = match self.found {
+            Found::Host(host) => (0, host),
+            Found::Zeros => (ZEROS, 0),
+            Found::Absent => (ABSENT, 0),
+            Found::Refused(number) => (number, 0),
+        };
+        [kind.into(), host, self.length]
+    }
+
+    pub fn of_row([kind, host, length]: [u64; 3]) -> Run {
+        let found = match kind as u32 {
+            0 => Found::Host(host),
+            ZEROS => Found::Zeros,
+            ABSENT => Found::Absent,
+            number => Found::Refused(number),
+        };
+        Run { found, length }
+    }
+}
+
 /// How a storing call ended, with the units spent.
 #[derive(Clone, Copy, Debug, PartialEq, Eq)]
 pub enum Outcome {
@@ -43,12 +88,14 @@ impl Verdict {
     }
 }
 
-/// The eight calls of one implementation.
+/// The nine calls of one implementation.
 pub trait Calls {
     fn name(&self) -> &'static str;
     fn translate(&self, image: &[u8], offset: u64) -> Found;
     fn read(&self, image: &[u8], offset: u64, out: &mut [u8]) -> Result<(), u32>;
     fn lookup<'a>(&self, image: &'a [u8], offset: u64) -> &'a [u8];
+    /// Fills rows of three numbers with the runs of the range; how many.
+    fn runs(&self, image: &[u8], offset: u64, len: u64, rows: &mut [u64]) -> Result<usize, u32>;
     fn write(&self, image: &mut [u8], offset: u64, data: &[u8], allowance: u64) -> Outcome;
     fn discard(&self, image: &mut [u8], cluster: u64, allowance: u64) -> Outcome;
     fn repair(&self, image: &mut [u8], scratch: &mut [u8], allowance: u64) -> Outcome;
@@ -73,6 +120,15 @@ macro_rules! calls_by_functions {
             }
             fn lookup<'a>(&self, image: &'a [u8], offset: u64) -> &'a [u8] {
                 lookup(image, offset)
+            }
+            fn runs(
+                &self,
+                image: &[u8],
+                offset: u64,
+                len: u64,
+                rows: &mut [u64],
+            ) -> Result<usize, u32> {
+                runs(image, offset, len, rows)
             }
             fn write(
                 &self,

@@ -1,21 +1,23 @@
 //! Times the proved core and the plain implementation side by side and prints
 //! tables of ratios. An argument chooses one family of cases: check, free,
-//! read, store or long.
+//! read, map, store or long.
 #![forbid(unsafe_code)]
 
 mod bench;
 mod check;
 mod free;
 mod long;
+mod map;
 mod read;
 mod store;
 
 use bench::Bench;
 
-const FAMILIES: [(&str, fn(&Bench)); 5] = [
+const FAMILIES: [(&str, fn(&Bench)); 6] = [
     ("check", check::run),
     ("free", free::run),
     ("read", read::run),
+    ("map", map::run),
     ("store", store::run),
     ("long", long::run),
 ];

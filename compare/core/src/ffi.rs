@@ -3,8 +3,6 @@
 //! global is touched.
 
 pub const STOPPED: u32 = 1001;
-pub const ZEROS: u32 = 1002;
-pub const ABSENT: u32 = 1003;
 pub const LEAKS: u32 = 1004;
 pub const BAD_L1: u32 = 1005;
 pub const BAD_L2: u32 = 1006;
@@ -16,6 +14,15 @@ extern "C" {
     pub fn qcow2_read(image: *const u8, n: usize, offset: u64, out: *mut u8, out_len: usize)
         -> u32;
     pub fn qcow2_lookup(image: *const u8, n: usize, offset: u64) -> usize;
+    pub fn qcow2_runs(
+        image: *const u8,
+        n: usize,
+        offset: u64,
+        len: u64,
+        rows: *mut u64,
+        m: usize,
+        count: *mut u64,
+    ) -> u32;
     pub fn qcow2_write(
         image: *mut u8,
         n: usize,

@@ -7,7 +7,7 @@
 
 mod ffi;
 
-pub use answers::{Found, Outcome, Verdict};
+pub use answers::{Found, Outcome, Run, Verdict};
 
 /// The proved core as an implementation of [`answers::Calls`].
 pub struct Core;
@@ -21,8 +21,8 @@ pub fn translate(image: &[u8], offset: u64) -> Found {
     let code = unsafe { ffi::qcow2_translate(lend(image), image.len(), offset, &mut host) };
     match code {
         0 => Found::Host(host),
-        ffi::ZEROS => Found::Zeros,
-        ffi::ABSENT => Found::Absent,
+        answers::ZEROS => Found::Zeros,
+        answers::ABSENT => Found::Absent,
         number => Found::Refused(number),
     }
 }
@@ -49,6 +49,20 @@ pub fn lookup(image: &[u8], offset: u64) -> &[u8] {
     match translate(image, offset) {
         Found::Host(host) => &image[host as usize..][..len],
         other => panic!("lookup answered {len} bytes where translation answered {other:?}"),
+    }
+}
+
+/// Fills `rows` with the runs of the `len` guest bytes from `offset` on, three
+/// numbers each (see [`Run::of_row`]), as far as they have room; how many.
+pub fn runs(image: &[u8], offset: u64, len: u64, rows: &mut [u64]) -> Result<usize, u32> {
+    let (mut pad, mut count, m) = (0, 0, rows.len());
+    let rows = lend_mut(rows, &mut pad);
+    // SAFETY: see the head of this file.
+    let code =
+        unsafe { ffi::qcow2_runs(lend(image), image.len(), offset, len, rows, m, &mut count) };
+    match code {
+        0 => Ok(count as usize),
+        number => Err(number),
     }
 }
 
@@ -126,7 +140,7 @@ fn lend(slice: &[u8]) -> *const u8 {
     }
 }
 
-fn lend_mut(slice: &mut [u8], pad: &mut u8) -> *mut u8 {
+fn lend_mut<T>(slice: &mut [T], pad: &mut T) -> *mut T {
     if slice.is_empty() {
         pad
     } else {

@@ -1,5 +1,5 @@
 //! A slice lent from the middle of a bigger buffer, whose other bytes must
-//! never change.
+//! never change; and the same for numbers.
 
 /// Odd, so that the lent bytes have no alignment.
 const GUARD: usize = 61;
@@ -47,4 +47,23 @@ impl Guarded {
             .iter()
             .all(|guard| guard.iter().enumerate().all(|(k, &byte)| byte == mark(k)))
     }
+}
+
+/// Numbers before and after the lent ones.
+const AROUND: usize = 5;
+
+/// Lends `count` numbers that are all `held`, and sees that none around them
+/// changes; the numbers afterwards, and the answer.
+pub fn with_numbers<A>(
+    count: usize,
+    held: u64,
+    call: impl FnOnce(&mut [u64]) -> A,
+) -> (Vec<u64>, A) {
+    let mut buffer = vec![!held; count + 2 * AROUND];
+    let lent = AROUND..AROUND + count;
+    buffer[lent.clone()].fill(held);
+    let answer = call(&mut buffer[lent.clone()]);
+    let around = buffer[..lent.start].iter().chain(&buffer[lent.end..]);
+    assert!(around.copied().all(|number| number == !held), "numbers around changed");
+    (buffer[lent].to_vec(), answer)
 }

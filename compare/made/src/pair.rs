@@ -6,7 +6,7 @@ use std::collections::BTreeMap;
 use answers::{Calls, Outcome};
 
 use crate::breaks::ORDER;
-use crate::guard::Guarded;
+use crate::guard::{with_numbers, Guarded};
 use crate::requests::Request;
 
 pub struct Pair<'c> {
@@ -54,6 +54,7 @@ impl<'c> Pair<'c> {
                 self.answers(request, |side, image| part(image, side.lookup(image.lent(), offset)));
             }
             Request::Read { offset, len } => self.read(request, offset, len),
+            Request::Runs { offset, len, room } => self.runs(request, offset, len, room),
             Request::Check { scratch } => {
                 self.with_scratch(request, scratch, |side, image, scratch| {
                     side.check(image.lent(), scratch)
@@ -115,6 +116,28 @@ impl<'c> Pair<'c> {
         same(request, out, answer.is_err().then_some(&before));
     }
 
+    /// Rows and answer agree; what is left over, or all of a refused call's
+    /// numbers, is as it was.
+    fn runs(&mut self, request: &Request, offset: u64, len: u64, room: usize) {
+        const HELD: u64 = 0xC3C3;
+        let mut rows = Vec::new();
+        let answer = self.answers(request, |side, image| {
+            let run = |lent: &mut [u64]| side.runs(image.lent(), offset, len, lent);
+            let (numbers, answer) = with_numbers(room, HELD, run);
+            rows.push(numbers);
+            answer
+        });
+        assert!(rows[0] == rows[1], "rows differ: {request:?}");
+        let filled = 3 * answer.unwrap_or(0);
+        assert!(
+            rows[0][filled..].iter().all(|&number| number == HELD),
+            "past the rows: {request:?}"
+        );
+        let most = if answer.is_ok() { len } else { 0 };
+        let covered: u64 = rows[0][..filled].iter().skip(2).step_by(3).sum();
+        assert!(covered == most || covered < most && filled / 3 == room / 3, "{request:?}");
+    }
+
     fn with_scratch<A: PartialEq + std::fmt::Debug>(
         &mut self,
         request: &Request,
@@ -150,6 +173,7 @@ pub fn missing(tally: &BTreeMap<String, u64>) -> Vec<String> {
     for (call, answers, numbers) in [
         ("translate", ["Host", "Zeros", "Absent"].as_slice(), [11, 12, 13].as_slice()),
         ("read", &["Ok"], &[11, 12, 13]),
+        ("runs", &["Ok"], &[11]),
         ("write", storing, &[11, 12, 13, 14]),
         ("discard", storing, &[11, 12, 13, 16]),
         ("repair", storing, &[15, 17]),

@@ -18,6 +18,12 @@ pub enum Request {
     Lookup {
         offset: u64,
     },
+    /// With room for this many numbers.
+    Runs {
+        offset: u64,
+        len: u64,
+        room: usize,
+    },
     Write {
         offset: u64,
         data: Vec<u8>,
@@ -46,6 +52,9 @@ impl fmt::Debug for Request {
                 write!(to, " at {offset}")
             }
             Request::Read { offset, len } => write!(to, " {len} at {offset}"),
+            Request::Runs { offset, len, room } => {
+                write!(to, " of {len} at {offset}, room for {room}")
+            }
             Request::Write { offset, data, allowance } => {
                 let (len, start) = (data.len(), &data[..data.len().min(8)]);
                 write!(to, " {len} at {offset} ({start:x?}), allowance {allowance}")
@@ -67,6 +76,7 @@ impl Request {
             Request::Translate { .. } => "translate",
             Request::Read { .. } => "read",
             Request::Lookup { .. } => "lookup",
+            Request::Runs { .. } => "runs",
             Request::Write { .. } => "write",
             Request::Discard { .. } => "discard",
             Request::Repair { .. } => "repair",
@@ -89,7 +99,7 @@ impl<'m> Requests<'m> {
     }
 
     pub fn any(&mut self, rng: &mut Rng) -> Request {
-        match rng.below(16) {
+        match rng.below(18) {
             0..=1 => Request::Translate { offset: self.offset(rng) },
             2..=4 => {
                 let offset = self.offset(rng);
@@ -97,6 +107,7 @@ impl<'m> Requests<'m> {
             }
             5 => Request::Lookup { offset: self.offset(rng) },
             6 => Request::Check { scratch: self.scratch(rng) },
+            7..=8 => self.runs(rng),
             _ => self.storing(rng),
         }
     }
@@ -116,6 +127,17 @@ impl<'m> Requests<'m> {
                 Request::Repair { scratch: self.scratch(rng), allowance }
             }
         }
+    }
+
+    /// Runs of a part or of all of the disk, or past it.
+    fn runs(&mut self, rng: &mut Rng) -> Request {
+        let offset = self.offset(rng);
+        let (cluster, size) = (self.made.cluster() as u64, self.made.size);
+        let most = size.saturating_sub(offset);
+        let some = rng.below(most.min(8 * cluster) + 1);
+        let len = rng.pick(&[0, 1, some, some, most, most, most + 1, cluster, u64::MAX]);
+        let room = rng.pick(&[0, 1, 2, 3, 4, 5, 6, 7, 60, 300]);
+        Request::Runs { offset, len, room }
     }
 
     fn data(&self, len: usize, rng: &mut Rng) -> Vec<u8> {

@@ -72,8 +72,8 @@ impl Header {
     }
 
     /// Does the guest range lie inside the disk?
-    pub fn holds(&self, offset: u64, len: usize) -> bool {
-        offset <= self.size && len as u64 <= self.size - offset
+    pub fn holds(&self, offset: u64, len: u64) -> bool {
+        offset <= self.size && len <= self.size - offset
     }
 
     /// Guest clusters that begin below the disk's end.

@@ -11,9 +11,9 @@ pub mod plain_disk;
 mod reading;
 mod storing;
 
-pub use answers::{Found, Outcome, Verdict};
+pub use answers::{Found, Outcome, Run, Verdict};
 pub use check::{check, difference, repair};
-pub use reading::{lookup, read, translate};
+pub use reading::{lookup, read, runs, translate};
 pub use storing::{discard, write};
 
 /// This crate as an implementation of [`answers::Calls`].

@@ -1,10 +1,10 @@
-//! Translate, read and lookup.
+//! Translate, read, lookup and runs.
 
 use std::ops::Range;
 
-use answers::Found;
+use answers::{Found, Run};
 
-use crate::entries::{Rules, Slot};
+use crate::entries::{Mapping, Rules, Slot};
 use crate::header::{be64, Header};
 
 /// What stands behind `offset`.
@@ -18,13 +18,10 @@ fn find(header: &Header, image: &[u8], offset: u64) -> Result<Found, u32> {
     if offset >= header.size {
         return Err(11);
     }
-    let inside = offset as usize & (header.cluster() - 1);
+    let inside = offset & (header.cluster() as u64 - 1);
     Ok(match header.slot(image, offset >> header.cluster_bits)? {
-        Slot::Entry { mapping, .. } if mapping.zeros => Found::Zeros,
-        Slot::Entry { mapping, .. } if mapping.place != 0 => {
-            Found::Host((mapping.place + inside) as u64)
-        }
-        _ => Found::Absent,
+        Slot::Entry { mapping, .. } => gives(Ok(mapping), inside),
+        Slot::NoTable { .. } => Found::Absent,
     })
 }
 
@@ -46,7 +43,7 @@ pub fn lookup(image: &[u8], offset: u64) -> &[u8] {
 /// Fills `out` with the guest bytes from `offset` on, or refuses and leaves it.
 pub fn read(image: &[u8], offset: u64, out: &mut [u8]) -> Result<(), u32> {
     let header = Header::judge(image)?;
-    if !header.holds(offset, out.len()) {
+    if !header.holds(offset, out.len() as u64) {
         return Err(11);
     }
     visit(&header, image, offset, out.len(), |_, _| ())?;
@@ -96,4 +93,82 @@ fn visit(
         }
     }
     Ok(())
+}
+
+/// Fills `rows` with the runs of a guest range, three numbers each, as far as
+/// they have room; how many.
+pub fn runs(image: &[u8], offset: u64, len: u64, rows: &mut [u64]) -> Result<usize, u32> {
+    let header = Header::judge(image)?;
+    if !header.holds(offset, len) {
+        return Err(11);
+    }
+    let (mut at, mut left) = (offset, len);
+    let rows = rows.as_chunks_mut::<3>().0;
+    for (count, row) in rows.iter_mut().enumerate() {
+        if left == 0 {
+            return Ok(count);
+        }
+        let run = run(&header, image, at, left);
+        *row = run.row();
+        (at, left) = (at + run.length, left - run.length);
+    }
+    Ok(rows.len())
+}
+
+/// The run from `offset` on, of `len` bytes at most and not 0. Goes on table by
+/// table, and in a table entry by entry.
+fn run(header: &Header, image: &[u8], offset: u64, len: u64) -> Run {
+    let rules = Rules::of(header);
+    let cluster = 1u64 << header.cluster_bits;
+    let reach = (cluster / 8) << header.cluster_bits;
+    let mut run: Option<Run> = None;
+    while run.is_none_or(|run| run.length < len) {
+        let at = offset + run.map_or(0, |run| run.length);
+        let (l1_index, l2_index) = header.indices(at >> header.cluster_bits);
+        let table = match rules.l1(be64(image, header.l1_at + 8 * l1_index)) {
+            Some(table) if table != 0 => &image[table..table + header.cluster()],
+            none => {
+                let found = if none.is_some() { Found::Absent } else { Found::Refused(12) };
+                if joins(&mut run, found, reach - at % reach) {
+                    continue;
+                }
+                break;
+            }
+        };
+        let mut inside = at % cluster;
+        let mut going = true;
+        for entry in table.as_chunks().0[l2_index..].iter() {
+            let found = gives(rules.mapping(u64::from_be_bytes(*entry)), inside);
+            going = joins(&mut run, found, cluster - inside);
+            if !going || run.is_some_and(|run| run.length >= len) {
+                break;
+            }
+            inside = 0;
+        }
+        if !going {
+            break;
+        }
+    }
+    let run = run.expect("a range of some bytes");
+    Run { length: run.length.min(len), ..run }
+}
+
+/// What an L2 entry gives for a byte inside its cluster.
+fn gives(mapping: Result<Mapping, u32>, inside: u64) -> Found {
+    match mapping {
+        Err(number) => Found::Refused(number),
+        Ok(mapping) if mapping.zeros => Found::Zeros,
+        Ok(mapping) if mapping.place == 0 => Found::Absent,
+        Ok(mapping) => Found::Host(mapping.place as u64 + inside),
+    }
+}
+
+/// Lengthens the run if what comes next goes on alike.
+fn joins(run: &mut Option<Run>, found: Found, length: u64) -> bool {
+    match run {
+        None => *run = Some(Run { found, length }),
+        Some(run) if found == run.found.moved(run.length) => run.length += length,
+        Some(_) => return false,
+    }
+    true
 }

@@ -41,7 +41,7 @@ fn write_stores<'a>(
 ) -> Result<List<'a>, u32> {
     let cluster = header.cluster();
     let start = offset as usize & (cluster - 1);
-    if !header.holds(offset, data.len()) || data.len() > cluster - start {
+    if !header.holds(offset, data.len() as u64) || data.len() > cluster - start {
         return Err(11);
     }
     if data.is_empty() {

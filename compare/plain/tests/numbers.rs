@@ -8,21 +8,24 @@ use made::image::Made;
 use made::longest;
 use made::plan::{bench_image, Plan};
 use made::rng::Rng;
-use plain::{check, discard, lookup, read, repair, translate, write, Found, Outcome, Verdict};
+use plain::{
+    check, discard, lookup, read, repair, runs, translate, write, Found, Outcome, Verdict,
+};
 
 /// Every call refuses the image with this number and changes nothing.
 fn all_refuse(made: &mut Made, number: u32) {
     let before = made.bytes.clone();
     let image = &mut made.bytes;
-    let (mut scratch, mut out) = ([7; 3], [7; 3]);
+    let (mut scratch, mut out, mut numbers) = ([7; 3], [7; 3], [7; 3]);
     assert_eq!(translate(image, u64::MAX), Found::Refused(number));
     assert_eq!(read(image, u64::MAX, &mut out), Err(number));
     assert!(lookup(image, 0).is_empty());
+    assert_eq!(runs(image, u64::MAX, u64::MAX, &mut numbers), Err(number));
     assert_eq!(write(image, u64::MAX, &out, 9), Outcome::Refused(number));
     assert_eq!(discard(image, u64::MAX, 9), Outcome::Refused(number));
     assert_eq!(check(image, &mut scratch[..0]), Verdict::Refused(number));
     assert_eq!(repair(image, &mut scratch, 9), Outcome::Refused(number));
-    assert!(*image == before && scratch == [7; 3] && out == [7; 3]);
+    assert!(*image == before && scratch == [7; 3] && out == [7; 3] && numbers == [7; 3]);
 }
 
 #[test]
