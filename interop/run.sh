@@ -1,7 +1,7 @@
 #!/usr/bin/env bash
 # qemu's images under qstore, and qstore's images under qemu.
 #
-#   interop/run.sh            needs qemu-img, qemu-io (qemu-utils) and qstore
+#   interop/run.sh            needs qemu-img, qemu-io, qemu-nbd (qemu-utils) and qstore
 #   QSTORE=/path/to/qstore interop/run.sh
 #
 # Prints a line for each comparison and ends with the number of those that were
@@ -129,6 +129,7 @@ made "convert -c (compressed clusters)" a 'refused 5; refused 6; damaged'
 . "$here/written.sh"
 . "$here/bitmaps.sh"
 . "$here/advice.sh"
+. "$here/locks.sh"
 
 echo "== $same as expected, $other otherwise"
 [ "$other" = 0 ]

@@ -26,9 +26,18 @@ pub enum Command {
     Discard { offset: u64, length: u64, allowance: u64 },
 }
 
+impl Command {
+    /// Is it one that may change the image?
+    pub fn changes(&self) -> bool {
+        matches!(self, Command::Repair { .. } | Command::Write { .. } | Command::Discard { .. })
+    }
+}
+
 pub enum Parsed {
     Run(Options),
     Help(&'static str),
+    /// The manual page, for the Makefile.
+    Man,
     Version,
 }
 
@@ -37,7 +46,7 @@ const LOOKS: &[&str] = &["--share", "--as-if-mended"];
 
 /// A command's name, its operands beside the image, its options beside those
 /// of all, and its help.
-const COMMANDS: [(&str, &[&str], &[&str], &str); 7] = [
+pub const COMMANDS: [(&str, &[&str], &[&str], &str); 7] = [
     ("info", &[], LOOKS, help::INFO),
     ("check", &[], LOOKS, help::CHECK),
     ("repair", &[], &["--allowance", "--force"], help::REPAIR),
@@ -53,6 +62,7 @@ pub fn parse(args: impl IntoIterator<Item = OsString>) -> Result<Parsed, String>
     let first = args.next().ok_or("a command is missing")?;
     let name = match first.to_str() {
         Some("--help" | "-h" | "help") => return Ok(Parsed::Help(help::MAIN)),
+        Some("--man") => return Ok(Parsed::Man),
         Some("--version") => return Ok(Parsed::Version),
         Some(name) => name,
         None => "",
@@ -78,6 +88,11 @@ pub fn parse(args: impl IntoIterator<Item = OsString>) -> Result<Parsed, String>
     let command = command(name, &numbers, &line);
     let Line { json, share, as_if_mended, .. } = line;
     Ok(Parsed::Run(Options { json, image, share, as_if_mended, command }))
+}
+
+/// Does the line ask for JSON, wherever it is wrong?
+pub fn asks_json(line: &[OsString]) -> bool {
+    line.iter().take_while(|arg| *arg != "--").any(|arg| arg == "--json")
 }
 
 fn command(name: &str, numbers: &[u64], line: &Line) -> Command {
@@ -190,6 +205,16 @@ mod tests {
         }
         assert!(fault("write a x").starts_with("write: OFFSET: 'x' is no number"));
         assert!(fault("write a 0 --allowance").contains("missing"));
+    }
+
+    #[test]
+    fn json_is_asked_for_anywhere_but_among_the_operands() {
+        let asks = |line: &str| {
+            let line: Vec<OsString> = line.split_whitespace().map(OsString::from).collect();
+            asks_json(&line)
+        };
+        assert!(asks("--json") && asks("list a --json") && asks("read a --no --json 0"));
+        assert!(!asks("") && !asks("check a b") && !asks("check -- --json b"));
     }
 
     #[test]

@@ -27,24 +27,23 @@ fn doubt(bits: u64) -> String {
     format!("autoclear_features is {}, and what looks leaked may be {owners}", named(bits))
 }
 
+/// Why nothing has to be done.
+const ONLY_ROOM: &str = "Leaked clusters cost room and no guest byte, so nothing has to be done";
+
 /// For an image that looks leaking.
 pub fn advice(bits: u64) -> String {
     format!(
-        "{}. Do not repair it while they are wanted; any other change gives them up too.",
+        "{}. Do not repair it while they are wanted; any other change gives them up too. \
+         {ONLY_ROOM}.",
         doubt(bits)
     )
 }
 
 /// Why a repair is not made unless it is forced.
 pub fn guard(bits: u64) -> String {
-    let remove = if has_bitmaps(bits) {
-        "Remove the bitmaps with qemu (`qemu-img bitmap --remove IMAGE NAME`), or give"
-    } else {
-        "Give"
-    };
     format!(
-        "not changed: {}. The repair would clear the bits, which gives these features up, and free \
-         the clusters.\n  {remove} --force if they are not wanted.",
+        "not changed: {}.\n  {ONLY_ROOM}. A repair with --force clears the bits, which gives these \
+         features up, and frees the clusters: what was in them is lost.",
         doubt(bits)
     )
 }

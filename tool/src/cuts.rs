@@ -2,10 +2,12 @@
 //! file is flushed there, so that what a power cut leaves is the first units of
 //! the list.
 
+use std::io;
 use std::ops::Range;
 
+use crate::disk::Disk;
+use crate::fields::AUTOCLEAR;
 use crate::layout::Layout;
-use crate::places;
 
 /// The ends of the kinds in a write's list, the last being its length; None if
 /// no write has a list of that length.
@@ -63,30 +65,33 @@ pub struct Batch {
 /// What a drive stores whole or not at all.
 pub const SECTOR: usize = 512;
 
-/// The units of a repair, sector by sector in the list's order, from the image
-/// before and after it.
+/// The units of a repair, sector by sector in the list's order, from the disk
+/// before it and the image after it.
 ///
 /// A flush for each count would be slow where there are many. But a sector is
 /// stored whole or not at all, which every store of an entry relies on too. So
 /// with a flush after each sector a power cut still leaves just the first units
 /// of the list: those of the sectors before, and of this one all or none.
-pub fn of_repair(layout: &Layout, before: &[u8], after: &[u8]) -> Vec<Batch> {
-    let mut batches: Vec<Batch> = Vec::new();
-    if places::cleared(before, after) {
+pub fn of_repair<D: Disk>(layout: &Layout, disk: &D, after: &[u8]) -> io::Result<Vec<Batch>> {
+    let mut batches = Vec::new();
+    let mut bits = [0; 8];
+    disk.load(AUTOCLEAR.start as u64, &mut bits)?;
+    if bits != after[AUTOCLEAR] {
         batches.push(Batch { sector: 0..SECTOR, units: 1 });
     }
-    for cluster in 0..layout.clusters {
-        if layout.count(before, cluster) == layout.count(after, cluster) {
-            continue;
-        }
-        let Some(at) = layout.count_at(before, cluster) else { continue };
-        let start = at / SECTOR * SECTOR;
-        match batches.last_mut() {
-            Some(batch) if batch.sector.start == start => batch.units += 1,
-            _ => batches.push(Batch { sector: start..start + SECTOR, units: 1 }),
+    for counts in layout.stored_counts(after) {
+        let mut before = vec![0; counts.len()];
+        disk.load(counts.start as u64, &mut before)?;
+        let sectors = before.chunks(SECTOR).zip(after[counts.clone()].chunks(SECTOR));
+        for (start, (old, new)) in counts.step_by(SECTOR).zip(sectors) {
+            let pairs = old.chunks(2).zip(new.chunks(2));
+            let units = pairs.filter(|(old, new)| old != new).count() as u64;
+            if units > 0 {
+                batches.push(Batch { sector: start..start + SECTOR, units });
+            }
         }
     }
-    batches
+    Ok(batches)
 }
 
 #[cfg(test)]

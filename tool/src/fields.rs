@@ -27,6 +27,7 @@ pub const AUTOCLEAR: Range<usize> = 88..96;
 pub struct Fields {
     pub version: u32,
     pub backing: u64,
+    pub backing_length: u32,
     pub cluster_bits: u32,
     pub size: u64,
     pub crypt: u32,
@@ -35,8 +36,9 @@ pub struct Fields {
     pub table_at: u64,
     pub table_clusters: u32,
     pub snapshots: u32,
-    /// Version 3, as are the next three; version 2 has 0, 0, 4 and 104.
+    /// Version 3, as are the next four; version 2 has 0, 0, 0, 4 and 104.
     pub incompatible: u64,
+    pub compatible: u64,
     pub autoclear: u64,
     pub order: u32,
     pub header_length: u32,
@@ -62,6 +64,7 @@ impl Fields {
         Some(Fields {
             version,
             backing: be64(bytes, 8)?,
+            backing_length: be32(bytes, 16)?,
             cluster_bits: be32(bytes, 20)?,
             size: be64(bytes, 24)?,
             crypt: be32(bytes, 32)?,
@@ -71,6 +74,7 @@ impl Fields {
             table_clusters: be32(bytes, 56)?,
             snapshots: be32(bytes, 60)?,
             incompatible: newer(be64(bytes, 72)?, 0),
+            compatible: newer(be64(bytes, 80)?, 0),
             autoclear: newer(be64(bytes, AUTOCLEAR.start)?, 0),
             order: newer(be32(bytes, 96)?.into(), 4) as u32,
             header_length: newer(be32(bytes, 100)?.into(), HEADER_LENGTH.into()) as u32,
@@ -80,6 +84,25 @@ impl Fields {
     /// Cluster size, if cluster_bits is accepted.
     pub fn cluster(&self) -> Option<u64> {
         BITS.contains(&self.cluster_bits).then(|| 1 << self.cluster_bits)
+    }
+
+    /// Has the image nothing that qemu would change when it opens it to write?
+    pub fn is_plain(&self) -> bool {
+        let features = self.incompatible == 0 && self.autoclear == 0;
+        features && self.snapshots == 0 && self.backing == 0 && self.crypt == 0
+    }
+
+    /// Bits of a stored count, if refcount_order is one that qcow2 has.
+    pub fn count_width(&self) -> Option<u64> {
+        (self.order <= 6).then(|| 1 << self.order)
+    }
+
+    /// The name of the backing file, if the bytes have it.
+    pub fn backing_name(&self, bytes: &[u8]) -> Option<String> {
+        let (at, length) = (usize::try_from(self.backing).ok()?, self.backing_length as usize);
+        let known = at != 0 && (1..=1023).contains(&length);
+        let name = bytes.get(at..at.checked_add(length)?).filter(|_| known)?;
+        Some(String::from_utf8_lossy(name).into_owned())
     }
 }
 
@@ -96,12 +119,28 @@ mod tests {
         let three = Fields::read(&bytes).unwrap();
         assert_eq!((three.order, three.header_length), (5, 112));
         assert_eq!((three.incompatible, three.autoclear), (u64::MAX, u64::MAX));
+        assert_eq!((three.compatible, three.count_width()), (u64::MAX, Some(32)));
         assert_eq!(three.cluster(), Some(512));
         bytes[7] = 2;
         let two = Fields::read(&bytes).unwrap();
         assert_eq!((two.order, two.header_length), (4, 104));
         assert_eq!((two.incompatible, two.autoclear, two.size), (0, 0, u64::MAX));
+        assert_eq!((two.compatible, two.backing_name(&bytes)), (0, None));
         assert_eq!(Fields::read(&bytes[..103]), None);
+    }
+
+    #[test]
+    fn names_of_backing_files() {
+        let mut bytes = vec![0; 120];
+        bytes[112..117].copy_from_slice(b"b.raw");
+        let name = |bytes: &[u8]| Fields::read(bytes).unwrap().backing_name(bytes);
+        assert_eq!(name(&bytes), None);
+        (bytes[15], bytes[19]) = (112, 5);
+        assert_eq!(name(&bytes), Some("b.raw".into()));
+        bytes[19] = 9;
+        assert_eq!(name(&bytes), None);
+        bytes[8] = 0xFF;
+        assert_eq!(name(&bytes), None);
     }
 
     #[test]

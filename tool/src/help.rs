@@ -2,6 +2,26 @@
 
 pub const HINT: &str = "Try 'qstore --help' or 'qstore COMMAND --help'.";
 
+/// The options of the commands that change nothing.
+macro_rules! looks {
+    () => {
+        "
+  --share         look although another program may be changing the image
+  --as-if-mended  look at it as if it were padded to whole clusters and its
+                  header_length 112 were 104; the file is not changed
+"
+    };
+}
+
+macro_rules! allowance {
+    () => {
+        "
+  --allowance U  stop after U units, as a power cut would; a unit is one count,
+                 one table entry or one byte of a cluster stored
+"
+    };
+}
+
 pub const MAIN: &str = "\
 qstore: qcow2 images by the proved core
 
@@ -21,63 +41,85 @@ Numbers: 4096, 0x1000, or 4k, 1M, 1G, 1T (powers of 1024).
 
 Exit: 0 sound or finished, 1 failed, refused or stopped, 2 damaged, 3 leaks
 (3 only from check). A refusal has a number from 1 to 18 and says what to do.
-No machine may have the image open while it is changed.
+qemu's locks are taken: an image that a machine has open is not changed.
 ";
 
-pub const INFO: &str = "\
+pub const INFO: &str = concat!(
+    "\
 qstore info IMAGE [--json] [--share] [--as-if-mended]
 
-Version, cluster size, disk size, L1 entries, clusters in use, free and leaked,
-and the verdict of the check.
-
+What the header says, clusters in use, free and leaked, and the verdict of the
+check. For an image that is refused: what its header says, and every obstacle
+with its remedy, in the order of doing.
+",
+    looks!(),
+    "
 Exit: 0, or 1 if the image is refused.
-";
+"
+);
 
-pub const CHECK: &str = "\
+pub const CHECK: &str = concat!(
+    "\
 qstore check IMAGE [--json] [--share] [--as-if-mended]
 
 Counts the references of every cluster and compares them with the stored
-counts. The image is not changed.
-
+counts. The verdict comes first, then all damage: bad entries, clusters with two
+references or more, clusters in use whose count is too low. The image is not
+changed.
+",
+    looks!(),
+    "
 Exit: 0 sound, 1 failed or refused, 2 damaged, 3 leaks.
-";
+"
+);
 
-pub const REPAIR: &str = "\
+pub const REPAIR: &str = concat!(
+    "\
 qstore repair IMAGE [--json] [--allowance U] [--force]
 
 Sets the count of each leaked cluster to its references, so that it is free
 again. Guest bytes do not change. A damaged image is refused (17) and left as
 it is. So is a leaking one with autoclear_features: what looks leaked may be
 theirs, such as the clusters of qemu's persistent bitmaps.
-
-  --allowance U  stop after U units, as a power cut would
-  --force        repair it although autoclear_features is not 0; they are
+",
+    allowance!(),
+    "  --force        repair it although autoclear_features is not 0; they are
                  cleared first, and persistent bitmaps are lost
 
 Exit: 0 sound afterwards, 1 failed, refused or stopped, 2 damaged.
-";
+"
+);
 
-pub const MAP: &str = "\
+pub const MAP: &str = concat!(
+    "\
 qstore map IMAGE [--json] [--share] [--as-if-mended]
 
 The guest disk as runs, fields parted by tabs: guest offset, length, kind and
 host offset. Kinds: host (data at the host offset), zeros, absent (not
 allocated, reads as zeros), refused (no way through the tables; the last field
 is then the number).
-
+",
+    looks!(),
+    "
 Exit: 0, or 1 if the image or a run is refused.
-";
+"
+);
 
-pub const READ: &str = "\
+pub const READ: &str = concat!(
+    "\
 qstore read IMAGE OFFSET LENGTH [--json] [--share] [--as-if-mended]
 
 Writes the guest bytes to standard output. Nothing is written unless the whole
 range can be read. With --json the bytes are given in hex.
-
+",
+    looks!(),
+    "
 Exit: 0, or 1 if failed or refused.
-";
+"
+);
 
-pub const WRITE: &str = "\
+pub const WRITE: &str = concat!(
+    "\
 qstore write IMAGE OFFSET [--json] [--allowance U]
 
 Writes standard input to the guest bytes from OFFSET on, guest cluster by guest
@@ -88,13 +130,15 @@ image that is sound or leaks.
 
 autoclear_features are cleared first: qemu then no longer uses persistent
 bitmaps, which would lack the change.
-
-  --allowance U  stop after U units, as a power cut would
-
+",
+    allowance!(),
+    "
 Exit: 0 finished, 1 failed, refused or stopped, 2 the image is damaged.
-";
+"
+);
 
-pub const DISCARD: &str = "\
+pub const DISCARD: &str = concat!(
+    "\
 qstore discard IMAGE OFFSET LENGTH [--json] [--allowance U]
 
 Gives whole guest clusters back; they read as zeros afterwards. OFFSET has to be
@@ -103,8 +147,9 @@ the disk. L2 tables are kept.
 
 autoclear_features are cleared first: qemu then no longer uses persistent
 bitmaps, which would lack the change.
-
-  --allowance U  stop after U units, as a power cut would
-
+",
+    allowance!(),
+    "
 Exit: 0 finished, 1 failed, refused or stopped, 2 the image is damaged.
-";
+"
+);

@@ -1,14 +1,16 @@
-//! Image files: opened, locked and read whole.
+//! Image files: opened, locked, flushed and read whole.
 
-use std::fs::{File, OpenOptions, TryLockError};
-use std::io::{ErrorKind, Read};
+use std::fs::{self, File, FileType, OpenOptions};
+use std::os::unix::fs::FileTypeExt;
 use std::path::{Path, PathBuf};
 
 use qcow2_core::Verdict;
 
-use crate::fields::MAX_IMAGE;
+use crate::disk::{unflushed, Disk};
+use crate::extents;
+use crate::fields::{Fields, MAX_IMAGE};
+use crate::lock;
 use crate::mended;
-use crate::progress::Progress;
 use crate::report::Failure;
 use crate::sentences::{refusal, Request, Subject};
 
@@ -21,30 +23,76 @@ pub enum Access {
     Change,
 }
 
-pub struct ImageFile {
+pub struct ImageFile<D = File> {
     pub path: PathBuf,
-    pub file: File,
+    pub file: D,
     pub bytes: Vec<u8>,
     /// What the user has to know of how the bytes were come by.
     pub notes: Vec<String>,
+    /// The file as it is, where the bytes are as if mended.
+    pub own: Own,
+}
+
+/// What mending changes.
+#[derive(Clone, Copy, PartialEq)]
+pub struct Own {
+    pub length: u64,
+    pub header_length: u32,
+}
+
+impl Own {
+    pub fn of(bytes: &[u8], length: u64) -> Own {
+        let header_length = Fields::read(bytes).map_or(0, |fields| fields.header_length);
+        Own { length, header_length }
+    }
 }
 
 impl ImageFile {
     /// Reads the image; `as_if_mended` is for looking alone.
     pub fn open(path: &Path, access: Access, as_if_mended: bool) -> Result<ImageFile, Failure> {
+        // Before it is opened: opening a FIFO waits, and a device may do more.
+        regular(fs::metadata(path)?.file_type())?;
         let change = access == Access::Change;
         let file = OpenOptions::new().read(true).write(change).open(path)?;
-        let about = file.metadata()?;
-        if !about.is_file() {
-            return Err(Failure::Other("it is no regular file".into()));
+        regular(file.metadata()?.file_type())?;
+        lock::take(&file, access)?;
+        ImageFile::read(path, file, access, as_if_mended)
+    }
+}
+
+impl<D: Disk> ImageFile<D> {
+    /// Reads the image from a disk that is locked. For a change it is flushed
+    /// first: a program that was killed may have left the system's cache ahead
+    /// of the drive, and stores that follow from what was judged there must not
+    /// reach the drive before it.
+    pub fn read(
+        path: &Path,
+        mut disk: D,
+        access: Access,
+        as_if_mended: bool,
+    ) -> Result<ImageFile<D>, Failure> {
+        if access == Access::Change {
+            disk.flush()
+                .map_err(|error| Failure::Other(format!("not changed: {}", unflushed(&error))))?;
         }
-        lock(&file, change)?;
-        if about.len() > MAX_IMAGE {
-            return Err(too_long(path, &file, about.len())?);
+        let length = disk.length()?;
+        if length > MAX_IMAGE {
+            return Err(too_long(path, &disk, length)?);
         }
-        let mut bytes = read_whole(&file, about.len())?;
-        let notes = if as_if_mended { mended::mend(&mut bytes) } else { Vec::new() };
-        Ok(ImageFile { path: path.into(), file, bytes, notes })
+        let mut bytes = extents::read(&disk, length)?;
+        let own = Own::of(&bytes, length);
+        let mut notes = shared(access);
+        if as_if_mended {
+            notes.extend(mended::mend(&mut bytes));
+        }
+        Ok(ImageFile { path: path.into(), file: disk, bytes, notes, own })
+    }
+}
+
+impl<D> ImageFile<D> {
+    /// Were the bytes mended in memory?
+    pub fn is_mended(&self) -> bool {
+        self.own != Own::of(&self.bytes, self.bytes.len() as u64)
     }
 
     /// The failure for a number that the core gave.
@@ -58,41 +106,48 @@ pub fn refused(path: &Path, bytes: &[u8], number: u32, request: Request) -> Fail
     Failure::Refused(refusal(number, &subject, request))
 }
 
-/// Keeps other qstore commands away from a file that is being changed. A file
-/// system without locks is accepted.
-fn lock(file: &File, change: bool) -> Result<(), Failure> {
-    let locked = if change { file.try_lock() } else { file.try_lock_shared() };
-    match locked {
-        Err(TryLockError::WouldBlock) => {
-            Err(Failure::Other("another qstore command has it open".into()))
-        }
-        Ok(()) | Err(TryLockError::Error(_)) => Ok(()),
+const SHARED: &str =
+    "looked at without a lock: another program may be changing the image, so what \
+                      is shown may be stale or wrong";
+
+fn shared(access: Access) -> Vec<String> {
+    let shared = (access == Access::LookShared).then(|| SHARED.into());
+    shared.into_iter().collect()
+}
+
+/// The notes on a file that is too long to be read.
+pub fn notes_unread(access: Access, as_if_mended: bool) -> Vec<String> {
+    let mut notes = shared(access);
+    if as_if_mended {
+        notes.push("as it is: --as-if-mended mends no file of this length".into());
     }
+    notes
+}
+
+fn regular(kind: FileType) -> Result<(), Failure> {
+    let what = if kind.is_file() {
+        return Ok(());
+    } else if kind.is_dir() {
+        "a folder"
+    } else if kind.is_fifo() {
+        "a FIFO"
+    } else if kind.is_block_device() || kind.is_char_device() {
+        "a device"
+    } else {
+        "a socket"
+    };
+    Err(Failure::Other(format!("it is {what}, and an image has to be a regular file")))
 }
 
 /// A file above the limit is judged by its first 512 bytes: the core gives 1
 /// to 4 by them alone, and 5 is next.
-fn too_long(path: &Path, mut file: &File, length: u64) -> Result<Failure, Failure> {
+fn too_long<D: Disk>(path: &Path, disk: &D, length: u64) -> Result<Failure, Failure> {
     let mut head = [0; 512];
-    file.read_exact(&mut head)?;
+    disk.load(0, &mut head)?;
     let number = match qcow2_core::check(&head, &mut [0]) {
         Verdict::Refused(number @ 1..=4) => number,
         _ => 5,
     };
     let subject = Subject { path, length, bytes: &head };
     Ok(Failure::Refused(refusal(number, &subject, Request::Look)))
-}
-
-fn read_whole(mut file: &File, length: u64) -> Result<Vec<u8>, Failure> {
-    const PORTION: usize = 1 << 20;
-    let mut bytes = vec![0; length as usize];
-    let mut progress = Progress::new("reading the image", length);
-    for (index, part) in bytes.chunks_mut(PORTION).enumerate() {
-        file.read_exact(part).map_err(|error| match error.kind() {
-            ErrorKind::UnexpectedEof => Failure::Other("it became shorter while being read".into()),
-            _ => error.into(),
-        })?;
-        progress.at((index * PORTION) as u64);
-    }
-    Ok(bytes)
 }

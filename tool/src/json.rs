@@ -2,6 +2,7 @@
 
 use std::fmt::{self, Display, Formatter, Write};
 
+#[derive(Debug)]
 pub enum Json {
     Null,
     Bool(bool),
@@ -84,7 +85,7 @@ fn escaped(out: &mut Formatter, text: &str) -> fmt::Result {
             '\n' => out.write_str("\\n")?,
             '\r' => out.write_str("\\r")?,
             '\t' => out.write_str("\\t")?,
-            control if control < ' ' || control == '\u{7f}' => {
+            control if control.is_control() => {
                 write!(out, "\\u{:04x}", control as u32)?;
             }
             other => out.write_char(other)?,
@@ -102,7 +103,10 @@ mod tests {
         let text = |text: &str| Json::from(text).to_string();
         assert_eq!(text("plain"), "\"plain\"");
         assert_eq!(text("a\"b\\c"), "\"a\\\"b\\\\c\"");
-        assert_eq!(text("\n\r\t\u{1}\u{1f}\u{7f}"), "\"\\n\\r\\t\\u0001\\u001f\\u007f\"");
+        assert_eq!(
+            text("\n\r\t\u{1}\u{1f}\u{7f}\u{9b}"),
+            "\"\\n\\r\\t\\u0001\\u001f\\u007f\\u009b\""
+        );
         assert_eq!(text("größe/\u{1f4be}"), "\"größe/\u{1f4be}\"");
     }
 

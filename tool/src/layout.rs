@@ -76,6 +76,15 @@ impl Layout {
         be16(image, self.count_at(image, cluster)?)
     }
 
+    /// Where the counts of the image's clusters stand, block by block.
+    pub fn stored_counts<'a>(&'a self, image: &'a [u8]) -> impl Iterator<Item = Range<usize>> + 'a {
+        let per_block = self.cluster() / 2;
+        (0..self.clusters).step_by(per_block).filter_map(move |first| {
+            let at = self.count_at(image, first)?;
+            Some(at..at + 2 * per_block.min(self.clusters - first))
+        })
+    }
+
     /// Clusters with stored count 0.
     pub fn free(&self, image: &[u8]) -> usize {
         (0..self.clusters).filter(|&cluster| self.count(image, cluster) == Some(0)).count()

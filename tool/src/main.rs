@@ -1,30 +1,24 @@
 #![forbid(unsafe_code)]
 
-use std::io::Write;
+use std::ffi::OsString;
 use std::process::ExitCode;
 
 use qstore::args::{self, Parsed};
-use qstore::{commands, help, report};
+use qstore::{commands, man, report};
 
 fn main() -> ExitCode {
-    let exit = match args::parse(std::env::args_os().skip(1)) {
-        Ok(Parsed::Help(text)) => print(text),
-        Ok(Parsed::Version) => print(&format!("qstore {}\n", env!("CARGO_PKG_VERSION"))),
+    let line: Vec<OsString> = std::env::args_os().skip(1).collect();
+    let exit = match args::parse(line.iter().cloned()) {
+        Ok(Parsed::Help(text)) => report::print(text, report::DONE),
+        Ok(Parsed::Man) => report::print(&man::page(), report::DONE),
+        Ok(Parsed::Version) => {
+            report::print(&format!("qstore {}\n", env!("CARGO_PKG_VERSION")), report::DONE)
+        }
         Ok(Parsed::Run(options)) => {
             let (notes, answer) = commands::run(&options);
             report::show(&options, notes, answer)
         }
-        Err(message) => {
-            eprintln!("qstore: {message}\n{}", help::HINT);
-            report::FAILED
-        }
+        Err(message) => report::usage(args::asks_json(&line), &message),
     };
     ExitCode::from(exit)
-}
-
-fn print(text: &str) -> u8 {
-    match std::io::stdout().write_all(text.as_bytes()) {
-        Ok(()) => report::DONE,
-        Err(_) => report::FAILED,
-    }
 }

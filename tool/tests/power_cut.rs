@@ -6,16 +6,20 @@ mod common;
 
 use std::fs;
 
-use common::drive::{put, sectors, torn, Drive, Random};
+use common::drive::{put, sectors, torn, usable, Drive, Random};
 use common::{bench_image, images};
 use qcow2_core::{check, read, translate, Found, Outcome, Verdict};
 use qstore::call::Call;
 use qstore::layout::Layout;
 use qstore::ordered::{Fault, Ordered};
-use qstore::places::cleared;
 
 fn verdict(image: &[u8]) -> Verdict {
     check(image, &mut vec![0; image.len() / 512])
+}
+
+/// Were the autoclear bits cleared?
+fn cleared(before: &[u8], after: &[u8]) -> bool {
+    before[88..96] != after[88..96]
 }
 
 fn guest(image: &[u8], size: u64) -> Vec<u8> {
@@ -34,11 +38,11 @@ fn set_bits(image: &mut [u8], layout: &Layout, random: &mut Random) {
 /// One call on a drive; every state on the way, then the image afterwards.
 fn follow(image: &[u8], call: Call, random: &mut Random) -> Vec<u8> {
     let layout = Layout::of(image).unwrap();
-    let mut ordered = Ordered::new(Drive::default(), layout, image.to_vec());
+    let mut ordered = usable(Drive::with(image));
     let outcome = ordered.call(&call, u64::MAX).expect("no fault");
     let mut wanted = image.to_vec();
     assert_eq!(call.run(&mut wanted, u64::MAX), outcome);
-    assert!(ordered.is_in_step() && ordered.image() == wanted);
+    assert!(ordered.is_in_step().unwrap() && ordered.image() == wanted);
     let request = match call {
         Call::Write { offset, data } => offset as usize..offset as usize + data.len(),
         Call::Discard { cluster } => {
@@ -46,8 +50,9 @@ fn follow(image: &[u8], call: Call, random: &mut Random) -> Vec<u8> {
             start..(start + layout.cluster()).min(layout.size as usize)
         }
     };
-    let drive = ordered.into_disk();
+    let mut drive = ordered.into_disk();
     assert!(drive.open.is_empty(), "something was not flushed");
+    assert!(drive.epochs.remove(0).is_empty(), "stored before the first flush");
     let (old, new) = (guest(image, layout.size), guest(&wanted, layout.size));
     let Outcome::Finished(units) = outcome else { panic!("{outcome:?}") };
     let others = units - u64::from(cleared(image, &wanted));
@@ -135,11 +140,12 @@ fn kinds_of_units_are_flushed_in_order() {
     for bits in [0, 1] {
         let mut image = bench_image();
         image[95] = bits;
-        let mut ordered = Ordered::new(Drive::default(), Layout::of(&image).unwrap(), image);
+        let mut ordered = usable(Drive::with(&image));
         let call = Call::Write { offset: 33_285, data: b"hello" };
         let units = 1028 + u64::from(bits);
         assert_eq!(ordered.call(&call, u64::MAX).unwrap(), Outcome::Finished(units));
-        let epochs = ordered.into_disk().epochs;
+        let mut epochs = ordered.into_disk().epochs;
+        assert!(epochs.remove(0).is_empty());
         let stores: Vec<usize> = epochs.iter().flatten().map(|store| store.0).collect();
         // Autoclear bits, table's count, count, data, L2 entry, L1 entry; the
         // table is zero already.
@@ -154,14 +160,48 @@ fn a_drive_that_fails_leaves_the_first_units() {
     for left in 0..12 {
         let mut image = bench_image();
         image[95] = 1;
-        let drive = Drive { left: Some(left), ..Drive::default() };
+        let drive = Drive { left: Some(left), ..Drive::with(&image) };
         let mut ordered = Ordered::new(drive, Layout::of(&image).unwrap(), image.clone());
         let call = Call::Write { offset: 33_285, data: b"hello" };
-        assert!(matches!(ordered.call(&call, u64::MAX), Err(Fault::Io(_))), "{left}");
+        // Each kind is one store and one flush.
+        match ordered.call(&call, u64::MAX) {
+            Err(Fault::Store(_)) => assert_eq!(left % 2, 0),
+            Err(Fault::Flush(_)) => assert_eq!(left % 2, 1),
+            other => panic!("{left}: {other:?}"),
+        }
         let mut state = image;
         let drive = ordered.into_disk();
         drive.epochs.iter().for_each(|stores| put(&mut state, &sectors(stores)));
         put(&mut state, &sectors(&drive.open));
         assert!(verdict(&state).is_usable());
+    }
+}
+
+/// A trial leaves memory as the drive has it, whatever it came to.
+#[test]
+fn a_trial_stores_nothing() {
+    let image = bench_image();
+    let data = [1; 512];
+    let write = |guest: u64| Call::Write { offset: 512 * guest, data: &data };
+    for (guests, refused) in [(0..10, None), (0..12, Some((11, 14))), (60..70, None)] {
+        let mut ordered = usable(Drive::with(&image));
+        let calls = guests.clone().map(write);
+        let discards = guests.take(3).map(|cluster| Call::Discard { cluster });
+        let trial = ordered.trial(calls.chain(discards), |_| ()).unwrap();
+        assert_eq!(trial.err(), refused);
+        assert!(ordered.image() == image && ordered.is_in_step().unwrap());
+        assert!(ordered.into_disk().epochs.iter().all(|stores| stores.is_empty()));
+    }
+}
+
+/// What memory has and the drive does not is found.
+#[test]
+fn what_is_out_of_step_is_found() {
+    for at in [0, 100, 4000, 8191] {
+        let image = bench_image();
+        let mut drive = Drive::with(&image);
+        drive.cache[at] ^= 1;
+        let ordered = Ordered::new(drive, Layout::of(&image).unwrap(), image);
+        assert!(!ordered.is_in_step().unwrap());
     }
 }

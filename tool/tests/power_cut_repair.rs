@@ -18,6 +18,15 @@ struct Drive {
 }
 
 impl Disk for Drive {
+    fn length(&self) -> io::Result<u64> {
+        Ok(self.image.len() as u64)
+    }
+
+    fn load(&self, at: u64, bytes: &mut [u8]) -> io::Result<()> {
+        bytes.copy_from_slice(&self.image[at as usize..][..bytes.len()]);
+        Ok(())
+    }
+
     fn store(&mut self, at: u64, bytes: &[u8]) -> io::Result<()> {
         let at = at as usize;
         self.image[at..at + bytes.len()].copy_from_slice(bytes);
@@ -94,7 +103,7 @@ fn flushes(image: &[u8], leaks: u64, units: u64, allowance: u64) -> Vec<Vec<u8>>
     });
     let mut wanted = image.to_vec();
     assert_eq!(outcome.unwrap(), repair(&mut wanted, &mut [0; 1200], allowance));
-    assert!(ordered.is_in_step() && ordered.image() == wanted);
+    assert!(ordered.is_in_step().unwrap() && ordered.image() == wanted);
     spent.dedup();
     spent.retain(|&units| units > 0);
     let flushed = ordered.into_disk().flushed;

@@ -2,7 +2,7 @@
 
 mod common;
 
-use std::fs::{File, OpenOptions};
+use std::fs::OpenOptions;
 
 use common::{bench_image, qstore, Answer, Copy};
 
@@ -25,6 +25,20 @@ fn refused(copy: &Copy, line: &str, input: &[u8], number: u32, sentence: &str) {
     assert!(json.error.is_empty());
 }
 
+/// The same from info, which answers on standard output.
+fn listed(copy: &Copy, number: u32, sentence: &str) {
+    let answer = unchanged(copy, "info IMAGE", &[]);
+    assert!(answer.exit == 1 && answer.error.is_empty(), "{}", answer.error);
+    let first = answer.text.lines().find(|line| line.starts_with("refused (")).unwrap();
+    assert!(first.starts_with(&format!("refused ({number}): ")), "{first}");
+    assert!(answer.text.contains(sentence), "{sentence}: {}", answer.text);
+    let json = unchanged(copy, "info IMAGE --json", &[]);
+    assert!(json.exit == 1 && json.error.is_empty());
+    let first = format!("\"obstacles\": [{{\"number\": {number}, \"reason\": \"");
+    assert!(json.text.contains(&first), "{}", json.text);
+    assert!(json.text.contains(&format!("\"refused\": {number}, \"reason\": \"")));
+}
+
 fn with(test: &str, change: &dyn Fn(&mut Vec<u8>)) -> Copy {
     let mut image = bench_image();
     change(&mut image);
@@ -34,7 +48,7 @@ fn with(test: &str, change: &dyn Fn(&mut Vec<u8>)) -> Copy {
 #[test]
 fn headers() {
     type Case<'a> = (u32, &'a str, &'a dyn Fn(&mut Vec<u8>));
-    let cases: [Case; 31] = [
+    let cases: [Case; 32] = [
         (1, "511 bytes", &|image| image.truncate(511)),
         (2, "a QED image", &|image| image[..4].copy_from_slice(b"QED\0")),
         (3, "version is 4", &|image| image[7] = 4),
@@ -45,14 +59,15 @@ fn headers() {
         ),
         (4, "cluster_bits is 8; ", &|image| image[23] = 8),
         (5, "clusters of 131072 bytes (122880 are missing to the next)", &|image| image[23] = 17),
-        (5, "`truncate -s 2097152 ", &|image| image[23] = 21),
-        (5, "`truncate -s 8704 ", &|image| image.push(0)),
+        (5, "it seems to be cut short", &|image| image[23] = 21),
+        (5, "it seems to be cut short", &|image| image.truncate(1100)),
+        (5, "`truncate -s %512 ", &|image| image.push(0)),
         (6, "backing file", &|image| image[15] = 1),
         (6, "LUKS", &|image| image[35] = 2),
         (6, "3 internal snapshot(s)", &|image| image[63] = 3),
         (6, "counts have 1 bits", &|image| image[99] = 0),
         (6, "`printf h | dd of=", &|image| image[103] = 112),
-        (6, "compat=0.10", &|image| image[103..105].copy_from_slice(&[112, 1])),
+        (6, "such a compression type", &|image| image[103..105].copy_from_slice(&[112, 1])),
         (7, "bit 0 (dirty", &|image| image[79] = 1),
         (7, "bit 4 (extended L2 entries)", &|image| image[79] = 16),
         (8, "reach 65536 bytes, the disk has 65537", &|image| image[31] = 1),
@@ -75,7 +90,8 @@ fn headers() {
     ];
     for (number, sentence, change) in cases {
         let copy = with("headers", change);
-        for line in ["info IMAGE", "check IMAGE", "map IMAGE", "read IMAGE 0 1", "repair IMAGE"] {
+        listed(&copy, number, sentence);
+        for line in ["check IMAGE", "map IMAGE", "read IMAGE 0 1", "repair IMAGE"] {
             refused(&copy, line, &[], number, sentence);
         }
         refused(&copy, "write IMAGE 0", b"x", number, sentence);
@@ -89,11 +105,13 @@ fn requests() {
     refused(&copy, "read IMAGE 65535 2", &[], 11, "From 65535 on there are 1 bytes");
     refused(&copy, "read IMAGE 0xffffffffffffffff 2", &[], 11, "disk's end at 65536");
     refused(&copy, "read IMAGE 0xffffffffffffffff 1", &[], 11, "disk's end at 65536");
-    refused(&copy, "write IMAGE 65530", &[1; 7], 11, "disk's end");
+    refused(&copy, "write IMAGE 65530", &[1; 7], 11, "more than 6 bytes at guest offset 65530");
     refused(&copy, "write IMAGE 65537", &[], 11, "disk's end");
     refused(&copy, "discard IMAGE 64k 512", &[], 11, "disk's end");
-    refused(&copy, "write IMAGE 0", &[1; 6144], 14, "5632 of 6144 bytes would find room");
-    refused(&copy, "write IMAGE 0", &[1; 8193], 14, "truncate -s +");
+    let needs = "needs 13 free clusters of 512 bytes (12 for its bytes, 1 for L2 tables)";
+    refused(&copy, "write IMAGE 0", &[1; 6144], 14, needs);
+    let needs = "needs 130 free clusters of 512 bytes (128 for its bytes, 2 for L2 tables)";
+    refused(&copy, "write IMAGE 0", &[1; 65_536], 14, needs);
     let whole = unchanged(&copy, "discard IMAGE 100 1000", &[]);
     assert_eq!(whole.exit, 1);
     assert!(whole.error.contains("whole guest clusters of 512 bytes"));
@@ -134,14 +152,18 @@ fn damage() {
 fn files_that_are_too_long() {
     let copy = Copy::with(&bench_image(), "long");
     OpenOptions::new().write(true).open(&copy.path).unwrap().set_len((1 << 30) + 512).unwrap();
-    for line in ["info IMAGE", "read IMAGE 0 1", "write IMAGE 0"] {
+    let info = copy.run("info IMAGE");
+    assert_eq!(info.exit, 1);
+    let sentence = "\nrefused (5): the file has 1073742336 bytes; at most 1073741824 are";
+    assert!(info.text.contains(sentence), "{}", info.text);
+    for line in ["read IMAGE 0 1", "write IMAGE 0"] {
         let answer = copy.run(line);
         assert_eq!(answer.exit, 1);
         let sentence = "refused (5): the file has 1073742336 bytes; at most 1073741824 are";
         assert!(answer.error.contains(sentence), "{}", answer.error);
     }
     OpenOptions::new().write(true).open(&copy.path).unwrap().set_len(1 << 30).unwrap();
-    assert!(copy.run("info IMAGE").error.contains("refused (9)"));
+    assert!(copy.run("check IMAGE").error.contains("refused (9)"));
 }
 
 /// A leaked cluster may be a bitmap's: only a forced repair frees it.
@@ -183,22 +205,13 @@ fn autoclear_bits_are_left() {
         assert!(!answer.text.contains("cleared"), "{line}");
     }
     let info = unchanged(&copy, "info IMAGE", &[]).text;
-    assert!(info.contains("\nautoclear_features: 0x100000000000000\n"), "{info}");
+    assert!(info.contains("\nautoclear_features: 0x100000000000000: bit 56 "), "{info}");
     let answer = unchanged(&copy, "write IMAGE 0 --allowance 0", b"x");
-    assert_eq!(answer.text, "stopped after 0 of 1029 units\n");
+    assert!(answer.text.starts_with("stopped after 0 of 1029 units ("), "{}", answer.text);
 }
 
 #[test]
-fn files_and_lines() {
-    let copy = Copy::with(&bench_image(), "lines");
-    let held = File::open(&copy.path).unwrap();
-    held.lock_shared().unwrap();
-    assert_eq!(copy.run("check IMAGE").exit, 0);
-    let answer = unchanged(&copy, "write IMAGE 0", b"x");
-    assert!(answer.exit == 1 && answer.error.contains("another qstore command"));
-    held.unlock().unwrap();
-    held.lock().unwrap();
-    assert_eq!(copy.run("check IMAGE").exit, 1);
+fn lines() {
     for line in [&["check", "/nowhere/image"][..], &["check", "/"], &["check"], &["frob"], &[]] {
         let answer = qstore(line, &[]);
         assert!(answer.exit == 1 && answer.error.starts_with("qstore: "), "{line:?}");

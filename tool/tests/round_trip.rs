@@ -2,7 +2,8 @@
 
 mod common;
 
-use common::{bench_image, guest, Copy};
+use common::{bench_image, guest, with_clusters, Copy};
+use qstore::report::units;
 
 const IMAGE: &str = "03-v3-512-data.qcow2";
 
@@ -71,32 +72,13 @@ fn cut_check_repair_read() {
     }
 }
 
-/// The bench image's layout with eight clusters of 2,097,152 bytes, and the
-/// longest disk.
-fn with_long_clusters() -> Vec<u8> {
-    let cluster = 1usize << 21;
-    let mut image = bench_image();
-    let counts = image[1024..1032].to_vec();
-    image.truncate(104);
-    image.resize(8 * cluster, 0);
-    let mut put = |at: usize, number: usize| {
-        image[at..at + 8].copy_from_slice(&(number as u64).to_be_bytes());
-    };
-    put(24, 1 << 40);
-    put(40, 3 * cluster);
-    put(48, cluster);
-    put(cluster, 2 * cluster);
-    image[23] = 21;
-    image[2 * cluster..][..8].copy_from_slice(&counts);
-    image
-}
-
+/// The longest clusters, and the longest disk.
 #[test]
 fn long_clusters() {
     let (cluster, offset) = (1 << 21, (1 << 40) - 5);
     let units = 2 * cluster + 4;
     for (cut, leaks) in [(1, 1), (cluster + 2, 2), (units - 1, 2), (units, 0)] {
-        let mut memory = with_long_clusters();
+        let mut memory = with_clusters(21, 8, 1 << 40);
         let copy = Copy::with(&memory, "long-clusters");
         copy.feed(&format!("write IMAGE {offset} --allowance {cut}"), b"hello");
         qcow2_core::write(&mut memory, offset, b"hello", cut);
@@ -123,13 +105,14 @@ fn autoclear_bits_are_cleared_first() {
                 uses the bitmaps.\n";
     let copy = Copy::with(&image(), "clear-cut");
     let stopped = copy.feed("write IMAGE 33285 --allowance 1", b"hello");
-    assert_eq!(stopped.text, format!("stopped after 1 of 1029 units\n{note}"));
+    assert_eq!(stopped.text, format!("stopped after 1 of {}\n{note}", units(1029)));
     assert!(copy.bytes() == bench_image());
     let copy = Copy::with(&image(), "clear");
     let answer = copy.feed("write IMAGE 33270", &data(20, 1));
-    assert_eq!(answer.text, format!("wrote 20 bytes at 33270: {} units\n{note}", 1029 + 514));
+    assert_eq!(answer.text, format!("wrote 20 bytes at 33270: {}\n{note}", units(1029 + 514)));
     let answer = copy.feed("write IMAGE 33270", &data(20, 2));
-    assert_eq!(answer.text, "wrote 20 bytes at 33270: 20 units\n");
+    let words = "wrote 20 bytes at 33270: 20 units (counts, table entries and bytes stored)\n";
+    assert_eq!(answer.text, words);
     let mut memory = copy.bytes();
     (memory[95], memory[1024 + 19]) = (3, 1);
     let copy = Copy::with(&memory, "clear-discard");
@@ -163,7 +146,7 @@ fn discarded_clusters_read_as_zeros() {
     let copy = Copy::of(IMAGE, "discard");
     let mut guest = guest(IMAGE);
     let answer = copy.run("discard IMAGE 4k 1k");
-    assert_eq!(answer.text, "discarded 1024 bytes at 4096: 4 units\n");
+    assert_eq!(answer.text, format!("discarded 1024 bytes at 4096: {}\n", units(4)));
     guest[4096..5120].fill(0);
     assert!(copy.run("read IMAGE 0 64k").out == guest);
     assert_eq!(copy.run("discard IMAGE 0 0").exit, 0);

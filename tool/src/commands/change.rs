@@ -1,6 +1,5 @@
 //! What the commands that change an image have in common.
 
-use std::fs::File;
 use std::path::PathBuf;
 
 use qcow2_core::Outcome;
@@ -8,6 +7,7 @@ use qcow2_core::Outcome;
 use super::check::check;
 use crate::autoclear;
 use crate::call::Call;
+use crate::disk::{unflushed, Disk};
 use crate::findings;
 use crate::image_file::ImageFile;
 use crate::ordered::{Fault, Ordered};
@@ -16,7 +16,7 @@ use crate::report::{Failure, Report};
 
 /// For writes and discards: only sound and leaking images, since the promise
 /// about power cuts is for them.
-pub fn open_usable(image: ImageFile) -> Result<(PathBuf, Ordered<File>), Failure> {
+pub fn open_usable<D: Disk>(image: ImageFile<D>) -> Result<(PathBuf, Ordered<D>), Failure> {
     let checked = check(&image)?;
     if !checked.verdict.is_usable() {
         let (what, json) = findings::verdict(&checked.layout, &image.bytes, checked.verdict);
@@ -37,18 +37,21 @@ pub fn noting(mut report: Report, bits: u64, after: &[u8]) -> Report {
 
 /// Tries the calls in memory: the units of all, or the first refusal with the
 /// index of its call.
-pub fn trial<'a>(
-    ordered: &mut Ordered<File>,
+pub fn trial<'a, D: Disk>(
+    ordered: &mut Ordered<D>,
     calls: impl Iterator<Item = Call<'a>> + Clone,
-) -> Result<u64, (usize, u32)> {
+) -> Result<Result<u64, (usize, u32)>, Failure> {
     let mut progress = Progress::new("trying in memory", calls.clone().count() as u64);
-    ordered.trial(calls, |done| progress.at(done))
+    ordered.trial(calls, |done| progress.at(done)).map_err(|fault| match fault {
+        Fault::Load(error) => Failure::Other(format!("not changed: {error}")),
+        fault => broken_off(0, fault),
+    })
 }
 
 /// Runs the calls in turn until the allowance is spent: the units, and whether
 /// all are finished.
-pub fn run<'a>(
-    ordered: &mut Ordered<File>,
+pub fn run<'a, D: Disk>(
+    ordered: &mut Ordered<D>,
     label: &'static str,
     total: u64,
     allowance: u64,
@@ -73,19 +76,26 @@ pub fn run<'a>(
 }
 
 /// The last look at memory and file.
-pub fn in_step(ordered: &Ordered<File>, spent: u64) -> Result<(), Failure> {
-    if ordered.is_in_step() {
-        Ok(())
-    } else {
-        Err(unexpected(spent, 0))
+pub fn in_step<D: Disk>(ordered: &Ordered<D>, spent: u64) -> Result<(), Failure> {
+    match ordered.is_in_step() {
+        Ok(true) => Ok(()),
+        Ok(false) => Err(unexpected(spent, 0)),
+        Err(error) => Err(Failure::Other(format!(
+            "all {spent} units are stored and flushed, but the file could not be read again to \
+             compare it: {error}. Check it."
+        ))),
     }
 }
 
+/// For a disk that failed after these units, or in the kind that follows them.
 pub fn broken_off(spent: u64, fault: Fault) -> Failure {
     match fault {
         Fault::Unexpected(units) => unexpected(spent, units),
-        Fault::Io(error) => Failure::Other(format!(
-            "broken off after {spent} units and more: {error}. The file holds the first units of \
+        Fault::Flush(error) => {
+            Failure::Other(format!("broken off after {spent} units or more: {}", unflushed(&error)))
+        }
+        Fault::Load(error) | Fault::Store(error) => Failure::Other(format!(
+            "broken off after {spent} units or more: {error}. The file holds the first units of \
              the list, as after a power cut: check it, and repair it if it leaks."
         )),
     }

@@ -3,13 +3,13 @@
 use qcow2_core::Verdict;
 
 use crate::autoclear;
+use crate::damage::Damage;
 use crate::findings;
 use crate::image_file::ImageFile;
-use crate::json::Json;
 use crate::layout::Layout;
 use crate::report::{Failure, Report, DAMAGED, DONE, LEAKS};
 use crate::runs;
-use crate::sentences::Request;
+use crate::sentences::{Request, Subject};
 
 /// The verdict on an accepted image, with the scratch that the check left.
 pub struct Checked {
@@ -18,7 +18,7 @@ pub struct Checked {
     pub scratch: Vec<u8>,
 }
 
-pub fn check(image: &ImageFile) -> Result<Checked, Failure> {
+pub fn check<D>(image: &ImageFile<D>) -> Result<Checked, Failure> {
     // Enough for any cluster size that is accepted.
     let mut scratch = vec![0; image.bytes.len() / 512 + 1];
     let verdict = qcow2_core::check(&image.bytes, &mut scratch);
@@ -33,32 +33,33 @@ pub fn check(image: &ImageFile) -> Result<Checked, Failure> {
 pub fn run(image: &ImageFile) -> Result<Report, Failure> {
     let checked = check(image)?;
     let (mut text, mut json) = findings::verdict(&checked.layout, &image.bytes, checked.verdict);
-    let exit = match checked.verdict {
-        Verdict::Sound => DONE,
-        Verdict::Leaks(_) => {
-            let leaked = runs::leaked(&checked.layout, &image.bytes, &checked.scratch);
-            text += &format!(" (clusters {})\n  {}", runs::text(&leaked), advice(image));
-            json.push(("advice", advice(image).into()));
-            let run = |(first, number): (u64, u64)| {
-                Json::Object(vec![("cluster", first.into()), ("number", number.into())])
-            };
-            json.push(("leaked", Json::List(leaked.into_iter().map(run).collect())));
-            LEAKS
-        }
-        _ => {
-            let advice = findings::advice(&checked.layout, &image.bytes, checked.verdict);
-            text += &format!("\n  {advice}");
-            json.push(("advice", advice.into()));
-            DAMAGED
-        }
+    if checked.verdict == Verdict::Sound {
+        json.extend(Damage::default().members(&checked.layout));
+        return Ok(Report { text: text + "\n", json, exit: DONE });
+    }
+    let damage = Damage::of(&checked.layout, &image.bytes, checked.verdict, &checked.scratch);
+    let (advice, exit) = if matches!(checked.verdict, Verdict::Leaks(_)) {
+        text += &format!(" (clusters {})\n", runs::text(&damage.leaked));
+        (advice(image), LEAKS)
+    } else {
+        text += &format!("\n{}", damage.lines(&checked.layout));
+        let length = image.bytes.len() as u64;
+        let subject = Subject { path: &image.path, length, bytes: &image.bytes };
+        (subject.advice(damage.remedy()), DAMAGED)
     };
-    text.push('\n');
+    text += &format!("  {advice}\n");
+    json.push(("advice", advice.into()));
+    json.extend(damage.members(&checked.layout));
     Ok(Report { text, json, exit })
 }
 
 /// What to do about leaks.
 fn advice(image: &ImageFile) -> String {
     match autoclear::bits(&image.bytes) {
+        0 if image.is_mended() => "Guest bytes are not affected. The file as it is would not be \
+                                   repaired: first do what 'qstore check' without --as-if-mended \
+                                   says; 'qstore repair' then gives the clusters back."
+            .into(),
         0 => "Guest bytes are not affected; 'qstore repair' gives the clusters back.".into(),
         bits => autoclear::advice(bits),
     }

@@ -5,13 +5,19 @@ use std::ops::Range;
 use super::change;
 use crate::autoclear;
 use crate::call::Call;
+use crate::disk::Disk;
 use crate::fields::be64;
 use crate::image_file::{refused, ImageFile};
 use crate::layout::Layout;
-use crate::report::{Failure, Report, DONE, FAILED};
+use crate::report::{self, Failure, Report, DONE, FAILED};
 use crate::sentences::Request;
 
-pub fn run(image: ImageFile, offset: u64, length: u64, allowance: u64) -> Result<Report, Failure> {
+pub fn run<D: Disk>(
+    image: ImageFile<D>,
+    offset: u64,
+    length: u64,
+    allowance: u64,
+) -> Result<Report, Failure> {
     let (path, mut ordered) = change::open_usable(image)?;
     let (layout, bits) = (ordered.layout, autoclear::bits(ordered.image()));
     let inside = offset.checked_add(length).is_some_and(|end| end <= layout.size);
@@ -22,7 +28,7 @@ pub fn run(image: ImageFile, offset: u64, length: u64, allowance: u64) -> Result
         .map_err(|message| Failure::Other(format!("not changed: {message}")))?;
     let parts = parts(&layout, ordered.image(), clusters);
     let calls = parts.into_iter().flatten().map(|cluster| Call::Discard { cluster });
-    let total = change::trial(&mut ordered, calls.clone()).map_err(|(index, number)| {
+    let total = change::trial(&mut ordered, calls.clone())?.map_err(|(index, number)| {
         let Some(Call::Discard { cluster }) = calls.clone().nth(index) else {
             return Failure::Other(format!("refused ({number})"));
         };
@@ -30,9 +36,9 @@ pub fn run(image: ImageFile, offset: u64, length: u64, allowance: u64) -> Result
     })?;
     let (units, finished) = change::run(&mut ordered, "discard", total, allowance, calls)?;
     let text = if finished {
-        format!("discarded {length} bytes at {offset}: {units} units\n")
+        format!("discarded {length} bytes at {offset}: {}\n", report::units(units))
     } else {
-        format!("stopped after {units} of {total} units\n")
+        format!("stopped after {units} of {}\n", report::units(total))
     };
     let json = vec![
         ("offset", offset.into()),

@@ -1,53 +1,93 @@
-//! What the image is.
+//! What the image is, and all that stands in its way if it is refused.
+
+use std::fs::File;
+use std::io::Read;
+use std::path::Path;
 
 use qcow2_core::Verdict;
 
-use super::check::check;
-use crate::autoclear;
+use super::check::{check, Checked};
+use crate::facts::{facts, Facts};
 use crate::findings;
-use crate::image_file::ImageFile;
+use crate::image_file::{ImageFile, Own};
 use crate::json::Json;
-use crate::report::{Failure, Report, DONE};
+use crate::obstacles;
+use crate::report::{Failure, Report, DONE, FAILED};
+use crate::sentences::Refusal;
 
-pub fn run(image: &ImageFile) -> Result<Report, Failure> {
-    let checked = check(image)?;
+pub fn run(mut image: ImageFile) -> Result<Report, Failure> {
+    match check(&image) {
+        Ok(checked) => Ok(accepted(&image.bytes, image.own, &checked)),
+        Err(Failure::Refused(_)) => {
+            let length = image.bytes.len() as u64;
+            Ok(refused(&image.path, &mut image.bytes, length, image.own))
+        }
+        Err(failure) => Err(failure),
+    }
+}
+
+/// A file that is too long to be read.
+pub fn too_long(path: &Path) -> Result<Report, Failure> {
+    let mut file = File::open(path)?;
+    let length = file.metadata()?.len();
+    let mut head = vec![0; 512];
+    file.read_exact(&mut head)?;
+    let own = Own::of(&head, length);
+    Ok(refused(path, &mut head, length, own))
+}
+
+fn accepted(bytes: &[u8], own: Own, checked: &Checked) -> Report {
     let layout = checked.layout;
-    let (verdict, members) = findings::verdict(&layout, &image.bytes, checked.verdict);
-    let free = layout.free(&image.bytes);
+    let (verdict, members) = findings::verdict(&layout, bytes, checked.verdict);
+    let Facts { mut text, members: mut json } = facts(bytes, own);
+    let free = layout.free(bytes);
     let used = layout.clusters - free;
     let leaked = match checked.verdict {
         Verdict::Sound => Some(0),
         Verdict::Leaks(number) => Some(number),
         _ => None,
     };
-    let bits = autoclear::bits(&image.bytes);
     let leaked_text = leaked.map_or("not known".into(), |number| number.to_string());
-    let mut text = format!(
-        "version: {}\nfile size: {} ({} clusters of {} bytes)\ndisk size: {}\nL1 entries: {}\n\
-         clusters in use: {used}\nclusters free: {free}\nclusters leaked: {leaked_text}\n",
-        layout.version,
-        image.bytes.len(),
-        layout.clusters,
-        layout.cluster(),
-        layout.size,
-        layout.l1_size,
+    text += &format!(
+        "clusters in use: {used}\nclusters free: {free}\nclusters leaked: {leaked_text}\n"
     );
-    if bits != 0 {
-        text += &format!("autoclear_features: {}\n", autoclear::named(bits));
+    let compressed = findings::compressed(&layout, bytes, checked.verdict);
+    if compressed > 0 {
+        text += &format!("clusters compressed: {compressed}\n");
     }
     text += &format!("verdict: {verdict}\n");
-    let json = vec![
-        ("version", layout.version.into()),
-        ("file_size", image.bytes.len().into()),
-        ("cluster_size", layout.cluster().into()),
-        ("clusters", layout.clusters.into()),
-        ("disk_size", layout.size.into()),
-        ("l1_size", layout.l1_size.into()),
+    json.extend([
         ("clusters_in_use", used.into()),
         ("clusters_free", free.into()),
         ("clusters_leaked", leaked.map_or(Json::Null, Json::Number)),
-        ("autoclear_features", bits.into()),
+        ("obstacles", Json::List(Vec::new())),
         ("check", Json::Object(members)),
-    ];
-    Ok(Report { text, json, exit: DONE })
+    ]);
+    Report { text, json, exit: DONE }
+}
+
+fn refused(path: &Path, bytes: &mut Vec<u8>, length: u64, own: Own) -> Report {
+    let Facts { mut text, members: mut json } = facts(bytes, own);
+    let obstacles = obstacles::of(path, bytes, length);
+    for Refusal { number, what, advice, .. } in &obstacles {
+        text += &format!("refused ({number}): {what}\n  {advice}\n");
+    }
+    if let Some(first) = obstacles.first() {
+        json.extend([
+            ("refused", first.number.into()),
+            ("reason", first.what.clone().into()),
+            ("advice", first.advice.clone().into()),
+        ]);
+    }
+    let object = |Refusal { number, what, advice, members }| {
+        let mut object: Vec<(&'static str, Json)> = vec![
+            ("number", Json::from(number)),
+            ("reason", Json::from(what)),
+            ("advice", Json::from(advice)),
+        ];
+        object.extend(members);
+        Json::Object(object)
+    };
+    json.push(("obstacles", Json::List(obstacles.into_iter().map(object).collect())));
+    Report { text, json, exit: FAILED }
 }

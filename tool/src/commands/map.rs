@@ -1,53 +1,77 @@
 //! Where each guest range lies.
 
-use qcow2_core::{translate, Found};
+use std::io::{self, Write};
 
-use crate::fields::be64;
+use qcow2_core::{Found, Run};
+
+use crate::guest::Runs;
 use crate::image_file::ImageFile;
 use crate::json::Json;
 use crate::layout::Layout;
-use crate::progress::Progress;
-use crate::report::{Failure, Report, DONE, FAILED};
-use crate::runs::{join, Run};
+use crate::report::{Failure, Output, Stream, DONE, FAILED};
 use crate::sentences::Request;
 
-pub fn run(image: &ImageFile) -> Result<Report, Failure> {
-    // Reading nothing judges the header.
-    qcow2_core::read(&image.bytes, 0, &mut [])
-        .map_err(|number| image.refused(number, Request::Look))?;
-    let layout = Layout::of(&image.bytes).ok_or_else(|| image.refused(1, Request::Look))?;
-    let runs = runs(&layout, &image.bytes);
-    let mut text = String::from("guest\tlength\tkind\thost\n");
-    for run in &runs {
-        let (kind, last) = words(run.found);
-        let last = last.map_or("-".into(), |(_, number)| number.to_string());
-        text += &format!("{}\t{}\t{kind}\t{last}\n", run.start, run.length);
-    }
-    let refused = runs.iter().any(|run| matches!(run.found, Found::Refused(_)));
-    let json = vec![
-        ("disk_size", layout.size.into()),
-        ("runs", Json::List(runs.iter().map(object).collect())),
-    ];
-    Ok(Report { text, json, exit: if refused { FAILED } else { DONE } })
+/// The map of an image whose header is accepted.
+pub struct Map {
+    image: ImageFile,
+    size: u64,
 }
 
-fn runs(layout: &Layout, image: &[u8]) -> Vec<Run> {
-    let mut runs = Vec::new();
-    let mut progress = Progress::new("map", layout.size);
-    let mut start = 0;
-    while start < layout.size {
-        let found = translate(image, start);
-        // Below an L1 entry of 0 nothing is allocated: the next offset to ask
-        // about is that of the next L1 entry.
-        let l1_index = (start >> layout.bits) / layout.per_table();
-        let empty = be64(image, layout.l1_entry_at(l1_index)) == Some(0);
-        let clusters = if empty && found == Found::Absent { layout.per_table() } else { 1 };
-        let length = (clusters << layout.bits).min(layout.size - start);
-        join(&mut runs, start, length, found);
-        start += length;
-        progress.at(start);
+impl Map {
+    pub fn of(image: ImageFile) -> Result<Map, Failure> {
+        let refused = |number| image.refused(number, Request::Look);
+        // No run at all: the header is judged.
+        qcow2_core::runs(&image.bytes, 0, 0, &mut []).map_err(refused)?;
+        let layout = Layout::of(&image.bytes).ok_or_else(|| refused(1))?;
+        Runs::of(&image.bytes, 0, layout.size).map_err(refused)?;
+        Ok(Map { size: layout.size, image })
     }
-    runs
+
+    /// Writes each run; the exit code.
+    fn each(&self, mut write: impl FnMut(u64, Run) -> io::Result<()>) -> io::Result<u8> {
+        let runs = Runs::of(&self.image.bytes, 0, self.size);
+        let mut exit = DONE;
+        for (start, run) in runs.map_err(|number| io::Error::other(number.to_string()))? {
+            if matches!(run.found, Found::Refused(_)) {
+                exit = FAILED;
+            }
+            write(start, run)?;
+        }
+        Ok(exit)
+    }
+}
+
+impl Stream for Map {
+    fn text(&self, out: &mut Output) -> io::Result<u8> {
+        out.write_all(b"guest\tlength\tkind\thost\n")?;
+        self.each(|start, run| {
+            let (kind, last) = words(run.found);
+            match last {
+                Some((_, number)) => writeln!(out, "{start}\t{}\t{kind}\t{number}", run.length),
+                None => writeln!(out, "{start}\t{}\t{kind}\t-", run.length),
+            }
+        })
+    }
+
+    fn members(&self) -> (Vec<(&'static str, Json)>, &'static str) {
+        (vec![("disk_size", self.size.into())], "runs")
+    }
+
+    fn json(&self, out: &mut Output) -> io::Result<u8> {
+        out.write_all(b"[")?;
+        let exit = self.each(|start, run| {
+            let comma = if start == 0 { "" } else { ", " };
+            let (kind, last) = words(run.found);
+            let length = run.length;
+            write!(out, "{comma}{{\"guest\": {start}, \"length\": {length}, \"kind\": \"{kind}\"")?;
+            match last {
+                Some((name, number)) => write!(out, ", \"{name}\": {number}}}"),
+                None => out.write_all(b"}"),
+            }
+        })?;
+        out.write_all(b"]")?;
+        Ok(exit)
+    }
 }
 
 /// The kind, and the number that goes with it.
@@ -58,12 +82,4 @@ fn words(found: Found) -> (&'static str, Option<(&'static str, u64)>) {
         Found::Absent => ("absent", None),
         Found::Refused(number) => ("refused", Some(("number", number.into()))),
     }
-}
-
-fn object(run: &Run) -> Json {
-    let (kind, last) = words(run.found);
-    let mut members =
-        vec![("guest", run.start.into()), ("length", run.length.into()), ("kind", kind.into())];
-    members.extend(last.map(|(name, number)| (name, number.into())));
-    Json::Object(members)
 }

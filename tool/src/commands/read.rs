@@ -1,69 +1,121 @@
 //! Guest bytes to standard output.
 
-use std::io::Write;
+use std::io::{self, Write};
 
+use qcow2_core::{Found, Run};
+
+use crate::guest::{self, Runs};
 use crate::image_file::ImageFile;
+use crate::json::Json;
 use crate::progress::Progress;
-use crate::report::{Failure, Report, DONE};
+use crate::report::{Failure, Output, Stream, DONE, PORTION};
 use crate::sentences::Request;
 
-const PORTION: usize = 4 << 20;
+/// Bytes that are put into hex at once.
+const FEW: usize = 4096;
 
-/// Nothing is written unless the whole range can be read: a range of several
-/// portions is read once before the first is written.
-pub fn run(
-    image: &ImageFile,
+/// A range whose bytes can all be read.
+pub struct Range {
+    image: ImageFile,
     offset: u64,
     length: u64,
-    json: bool,
-    out: &mut dyn Write,
-) -> Result<Report, Failure> {
-    let request = Request::Read { offset, length };
-    let end = offset.checked_add(length);
-    // Reading nothing at the range's end judges the header and the range.
-    qcow2_core::read(&image.bytes, end.unwrap_or(u64::MAX), &mut [])
-        .and(end.map(|_| ()).ok_or(11))
-        .map_err(|number| image.refused(number, request))?;
-    if length > PORTION as u64 {
-        portions(image, offset, length, "looking", &mut |_| Ok(()))?;
-    }
-    let mut hex = String::new();
-    if json {
-        portions(image, offset, length, "reading", &mut |bytes| {
-            bytes.iter().for_each(|byte| hex += &format!("{byte:02x}"));
-            Ok(())
-        })?;
-    } else {
-        portions(image, offset, length, "reading", &mut |bytes| out.write_all(bytes))?;
-        out.flush().map_err(output)?;
-    }
-    let json = vec![("offset", offset.into()), ("length", length.into()), ("data", hex.into())];
-    Ok(Report { text: String::new(), json, exit: DONE })
 }
 
-fn portions(
-    image: &ImageFile,
-    offset: u64,
-    length: u64,
-    label: &'static str,
-    each: &mut dyn FnMut(&[u8]) -> std::io::Result<()>,
-) -> Result<(), Failure> {
-    let mut progress = Progress::new(label, length);
-    let mut buffer = vec![0; length.min(PORTION as u64) as usize];
-    let mut done = 0;
-    while done < length {
-        let len = (length - done).min(PORTION as u64);
-        let part = &mut buffer[..len as usize];
-        let request = Request::Read { offset: offset + done, length: len };
-        qcow2_core::read(&image.bytes, offset + done, part)
-            .map_err(|number| image.refused(number, request))?;
-        each(part).map_err(output)?;
-        done += len;
-        progress.at(done);
+impl Range {
+    /// Nothing is written unless the whole range can be read: its runs are
+    /// listed first, and one that is refused refuses the range, as a read does.
+    pub fn of(image: ImageFile, offset: u64, length: u64) -> Result<Range, Failure> {
+        let refuse = |number| image.refused(number, Request::Read { offset, length });
+        let runs = Runs::of(&image.bytes, offset, length).map_err(refuse)?;
+        match guest::refused(runs) {
+            Some(number) => Err(refuse(number)),
+            None => Ok(Range { image, offset, length }),
+        }
+    }
+
+    fn each_part(&self, part: &mut dyn FnMut(&[u8]) -> io::Result<()>) -> io::Result<()> {
+        let runs = Runs::of(&self.image.bytes, self.offset, self.length)
+            .map_err(|number| io::Error::other(number.to_string()))?;
+        each_part(&self.image.bytes, runs, self.length, part)
+    }
+}
+
+impl Stream for Range {
+    fn text(&self, out: &mut Output) -> io::Result<u8> {
+        self.each_part(&mut |part| out.write_all(part))?;
+        Ok(DONE)
+    }
+
+    fn members(&self) -> (Vec<(&'static str, Json)>, &'static str) {
+        (vec![("offset", self.offset.into()), ("length", self.length.into())], "data")
+    }
+
+    fn json(&self, out: &mut Output) -> io::Result<u8> {
+        let mut digits = Vec::with_capacity(2 * FEW);
+        out.write_all(b"\"")?;
+        self.each_part(&mut |part| {
+            part.chunks(FEW).try_for_each(|few| {
+                digits.clear();
+                few.iter().for_each(|byte| digits.extend_from_slice(&hex(*byte)));
+                out.write_all(&digits)
+            })
+        })?;
+        out.write_all(b"\"")?;
+        Ok(DONE)
+    }
+}
+
+fn hex(byte: u8) -> [u8; 2] {
+    const DIGITS: &[u8; 16] = b"0123456789abcdef";
+    [DIGITS[usize::from(byte >> 4)], DIGITS[usize::from(byte & 15)]]
+}
+
+/// The bytes of the runs in parts, each straight from the image.
+fn each_part(
+    image: &[u8],
+    runs: impl Iterator<Item = (u64, Run)>,
+    total: u64,
+    part: &mut dyn FnMut(&[u8]) -> io::Result<()>,
+) -> io::Result<()> {
+    let (mut progress, mut done) = (Progress::new("reading", total), 0);
+    let zeros = vec![0; PORTION];
+    for (_, run) in runs {
+        let mut inside = 0;
+        while inside < run.length {
+            let length = (run.length - inside).min(PORTION as u64);
+            let bytes = match run.found {
+                Found::Host(host) => &image[(host + inside) as usize..][..length as usize],
+                _ => &zeros[..length as usize],
+            };
+            part(bytes)?;
+            inside += length;
+            progress.at(done + inside);
+        }
+        done += run.length;
     }
     Ok(())
 }
 
-fn output(error: std::io::Error) -> Failure {
-    Failure::Stream(format!("standard output: {error}"))
+#[cfg(test)]
+mod tests {
+    use super::*;
+
+    #[test]
+    fn parts_of_runs() {
+        let image: Vec<u8> = (0..3 * PORTION).map(|k| (k % 251) as u8).collect();
+        let run = |found, length| (0, Run { found, length });
+        let long = 2 * PORTION as u64 + 5;
+        let runs = [run(Found::Host(3), 4), run(Found::Zeros, long), run(Found::Host(7), long)];
+        let mut bytes = Vec::new();
+        each_part(&image, runs.into_iter(), 4 + 2 * long, &mut |part| {
+            bytes.extend_from_slice(part);
+            Ok(())
+        })
+        .unwrap();
+        let mut wanted = image[3..7].to_vec();
+        wanted.resize(4 + long as usize, 0);
+        wanted.extend_from_slice(&image[7..7 + long as usize]);
+        assert!(bytes == wanted);
+        assert_eq!([0, 0x0f, 0xa5].map(hex), [*b"00", *b"0f", *b"a5"]);
+    }
 }

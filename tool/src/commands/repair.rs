@@ -5,13 +5,14 @@ use qcow2_core::{Outcome, Verdict};
 use super::change;
 use super::check::check;
 use crate::autoclear;
+use crate::disk::Disk;
 use crate::image_file::{refused, ImageFile};
 use crate::ordered::Ordered;
 use crate::progress::Progress;
-use crate::report::{Failure, Report, DONE, FAILED};
+use crate::report::{self, Failure, Report, DONE, FAILED};
 use crate::sentences::Request;
 
-pub fn run(image: ImageFile, allowance: u64, force: bool) -> Result<Report, Failure> {
+pub fn run<D: Disk>(image: ImageFile<D>, allowance: u64, force: bool) -> Result<Report, Failure> {
     let checked = check(&image)?;
     let bits = autoclear::bits(&image.bytes);
     // What looks leaked may be in use by a feature that the core does not know.
@@ -22,7 +23,11 @@ pub fn run(image: ImageFile, allowance: u64, force: bool) -> Result<Report, Fail
     let path = image.path;
     let mut ordered = Ordered::new(image.file, checked.layout, image.bytes);
     let mut progress = Progress::new("repair", 0);
-    let outcome = ordered.repair(allowance, |done, total| progress.of(done, total));
+    let mut spent = 0;
+    let outcome = ordered.repair(allowance, |done, total| {
+        spent = done;
+        progress.of(done, total);
+    });
     drop(progress);
     let (units, finished) = match outcome {
         Ok(Outcome::Finished(units)) => (units, true),
@@ -30,7 +35,7 @@ pub fn run(image: ImageFile, allowance: u64, force: bool) -> Result<Report, Fail
         Ok(Outcome::Refused(number)) => {
             return Err(refused(&path, ordered.image(), number, Request::Look));
         }
-        Err(fault) => return Err(change::broken_off(0, fault)),
+        Err(fault) => return Err(change::broken_off(spent, fault)),
     };
     change::in_step(&ordered, units)?;
     let text = match (finished, units) {
@@ -39,7 +44,7 @@ pub fn run(image: ImageFile, allowance: u64, force: bool) -> Result<Report, Fail
             let counts = units - u64::from(bits != 0);
             format!("repaired: {counts} counts set, the image is sound\n")
         }
-        (false, _) => format!("stopped after {units} units\n"),
+        (false, _) => format!("stopped after {}\n", report::units(units)),
     };
     let json = vec![("units", units.into()), ("finished", finished.into())];
     let report = Report { text, json, exit: if finished { DONE } else { FAILED } };

@@ -1,50 +1,50 @@
 //! Standard input to guest bytes.
 
-use std::io::Read;
+use std::io::{self, Read};
 
 use super::change;
 use crate::autoclear;
-use crate::call::{writes, Call};
+use crate::call::writes;
+use crate::disk::Disk;
+use crate::fields::MAX_IMAGE;
 use crate::image_file::{refused, ImageFile};
-use crate::report::{Failure, Report, DONE, FAILED};
+use crate::report::{self, Failure, Report, DONE, FAILED};
 use crate::sentences::Request;
 
-pub fn run(
-    image: ImageFile,
+pub fn run<D: Disk>(
+    image: ImageFile<D>,
     offset: u64,
     input: &mut dyn Read,
     allowance: u64,
 ) -> Result<Report, Failure> {
     let (path, mut ordered) = change::open_usable(image)?;
     let (layout, bits) = (ordered.layout, autoclear::bits(ordered.image()));
-    let refuse = |image: &[u8], number, length: usize, done| {
-        let request = Request::Write { offset, length: length as u64, done };
-        refused(&path, image, number, request)
+    let refuse = |image: &[u8], number, length, whole| {
+        refused(&path, image, number, Request::Write { offset, length, whole })
     };
     let Some(room) = layout.size.checked_sub(offset) else {
-        return Err(refuse(ordered.image(), 11, 0, 0));
+        return Err(refuse(ordered.image(), 11, 0, true));
     };
-    // More bytes than the image has can find no room.
-    let most = room.min(ordered.image().len() as u64);
-    let mut data = Vec::new();
-    input
-        .take(most + 1)
-        .read_to_end(&mut data)
+    // More bytes than the image has can find no room; they are counted alone.
+    let limit = room.min(MAX_IMAGE);
+    let keep = limit.min(ordered.image().len() as u64);
+    let (data, length) = take(input, keep, limit)
         .map_err(|error| Failure::Stream(format!("standard input: {error}")))?;
-    if data.len() as u64 > most {
-        let number = if most == room { 11 } else { 14 };
-        return Err(refuse(ordered.image(), number, data.len(), 0));
+    if length > limit {
+        let number = if limit == room { 11 } else { 14 };
+        return Err(refuse(ordered.image(), number, limit, false));
+    }
+    if length > data.len() as u64 {
+        return Err(refuse(ordered.image(), 14, length, true));
     }
     let calls = writes(offset, &data, layout.bits);
-    let total = change::trial(&mut ordered, calls.clone()).map_err(|(index, number)| {
-        let accepted = calls.clone().take(index).map(|call| length(&call)).sum();
-        refuse(ordered.image(), number, data.len(), accepted)
-    })?;
+    let total = change::trial(&mut ordered, calls.clone())?
+        .map_err(|(_, number)| refuse(ordered.image(), number, length, true))?;
     let (units, finished) = change::run(&mut ordered, "write", total, allowance, calls)?;
     let text = if finished {
-        format!("wrote {} bytes at {offset}: {units} units\n", data.len())
+        format!("wrote {} bytes at {offset}: {}\n", data.len(), report::units(units))
     } else {
-        format!("stopped after {units} of {total} units\n")
+        format!("stopped after {units} of {}\n", report::units(total))
     };
     let json = vec![
         ("offset", offset.into()),
@@ -56,9 +56,31 @@ pub fn run(
     Ok(change::noting(report, bits, ordered.image()))
 }
 
-fn length(call: &Call) -> u64 {
-    match call {
-        Call::Write { data, .. } => data.len() as u64,
-        Call::Discard { .. } => 0,
+/// The first `keep` bytes, and how many there are; past `limit` the rest is not
+/// read.
+fn take(input: &mut dyn Read, keep: u64, limit: u64) -> io::Result<(Vec<u8>, u64)> {
+    let mut data = Vec::new();
+    input.take(keep).read_to_end(&mut data)?;
+    let kept = data.len() as u64;
+    let more = io::copy(&mut input.take(limit + 1 - kept), &mut io::sink())?;
+    Ok((data, kept + more))
+}
+
+#[cfg(test)]
+mod tests {
+    use super::take;
+
+    #[test]
+    fn input_is_counted_past_what_is_kept() {
+        let input = [7; 100];
+        let taken = |keep, limit| {
+            let (data, length) = take(&mut &input[..], keep, limit).unwrap();
+            (data.len(), length)
+        };
+        assert_eq!(taken(100, 200), (100, 100));
+        assert_eq!(taken(40, 200), (40, 100));
+        assert_eq!(taken(40, 100), (40, 100));
+        assert_eq!(taken(40, 60), (40, 61));
+        assert_eq!(taken(0, 0), (0, 1));
     }
 }

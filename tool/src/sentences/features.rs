@@ -1,23 +1,26 @@
 //! Numbers 6 and 7: what the image uses and the core does not know.
 
-use super::Subject;
+use super::{Remedy, Subject, WITHOUT};
+use crate::extensions;
 use crate::fields::{Fields, HEADER_LENGTH};
 
-pub fn sentence(number: u32, subject: &Subject) -> (String, String) {
+pub fn sentence(number: u32, subject: &Subject) -> (String, Remedy) {
     let Some(fields) = Fields::read(subject.bytes) else {
-        return ("the header is too short".into(), subject.convert());
+        return ("the header is too short".into(), Remedy::NewImage(String::new()));
     };
     if number == 6 {
-        (not_supported(&fields), advice_not_supported(subject, &fields))
+        (not_supported(subject, &fields), remedy_not_supported(subject, &fields))
     } else {
-        (incompatible(fields.incompatible), advice_incompatible(subject, fields.incompatible))
+        (incompatible(fields.incompatible), remedy_incompatible(fields.incompatible))
     }
 }
 
-fn not_supported(fields: &Fields) -> String {
+fn not_supported(subject: &Subject, fields: &Fields) -> String {
     let mut causes = Vec::new();
     if fields.backing != 0 {
-        causes.push("the image has a backing file".to_string());
+        let name = fields.backing_name(subject.bytes);
+        let name = name.map_or(String::new(), |name| format!(", {name:?}"));
+        causes.push(format!("the image has a backing file{name}"));
     }
     match fields.crypt {
         0 => {}
@@ -29,8 +32,7 @@ fn not_supported(fields: &Fields) -> String {
         causes.push(format!("the image has {} internal snapshot(s)", fields.snapshots));
     }
     if fields.order != 4 {
-        let width = 1u64.checked_shl(fields.order).filter(|&width| width <= 64);
-        let width = width.map_or("too many".into(), |width| width.to_string());
+        let width = fields.count_width().map_or("too many".into(), |width| width.to_string());
         causes.push(format!("its counts have {width} bits (refcount_order {})", fields.order));
     }
     if fields.header_length != HEADER_LENGTH {
@@ -41,62 +43,60 @@ fn not_supported(fields: &Fields) -> String {
     causes.join("; ")
 }
 
-fn advice_not_supported(subject: &Subject, fields: &Fields) -> String {
-    if fields.snapshots != 0 {
-        return format!("{} Only the active disk is taken over.", subject.convert());
-    }
-    if fields.autoclear & 1 != 0 {
-        return format!("{} Persistent bitmaps are not taken over.", subject.convert());
-    }
+fn remedy_not_supported(subject: &Subject, fields: &Fields) -> Remedy {
     let length_alone = fields.backing == 0
         && fields.crypt == 0
+        && fields.snapshots == 0
         && fields.order == 4
         && fields.incompatible == 0
         && fields.autoclear == 0;
-    if !length_alone {
-        return subject.convert();
+    if length_alone && can_be_set_back(subject, fields) {
+        let command = subject.commands().set_length_back();
+        return Remedy::InPlace(format!(
+            "Bytes 104 to 111 are zero, so the length can be set back without loss (byte 103 to \
+             104, letter h; letter p sets it again): {command}. The names of features are then no \
+             longer seen. {WITHOUT}"
+        ));
     }
-    let word = subject.word();
-    let amend = format!(
-        "`qemu-img amend -f qcow2 -o compat=0.10 {word}` makes it a version 2 image, which has no \
-         such field"
-    );
-    let unused = subject.bytes.get(104..112).is_some_and(|bytes| bytes == [0; 8]);
-    if fields.header_length == 112 && unused {
-        return format!(
-            "Bytes 104 to 111 are zero, so the length alone can be set back (byte 103 to 104): \
-             `printf h | dd of={word} bs=1 seek=103 conv=notrunc`; header extensions, such as \
-             names of features, are then no longer seen. Or {amend}."
-        );
-    }
-    format!("Either {amend}, or make a new one. {}", subject.convert())
+    Remedy::NewImage(String::new())
 }
 
-/// The bits of incompatible_features that have a name.
-const BITS: [&str; 5] = [
+/// Is what qemu 5.1 and later add unused, and would nothing be hidden that
+/// anybody needs?
+fn can_be_set_back(subject: &Subject, fields: &Fields) -> bool {
+    let unused = subject.bytes.get(104..112).is_some_and(|bytes| bytes == [0; 8]);
+    fields.header_length == 112 && unused && extensions::are_names_alone(subject.bytes, fields)
+}
+
+/// The bits that have a name, from bit 0 up.
+pub const INCOMPATIBLE_BITS: &[&str] = &[
     "dirty: its counts may be wrong",
     "corrupt: qemu found damage",
     "external data file",
     "compression type",
     "extended L2 entries",
 ];
+pub const COMPATIBLE_BITS: &[&str] = &["lazy refcounts"];
+pub const AUTOCLEAR_BITS: &[&str] = &["persistent bitmaps", "raw external data"];
 
-fn incompatible(bits: u64) -> String {
+/// The bits that are set, by name.
+pub fn named_bits(bits: u64, names: &[&str]) -> Vec<String> {
     let set = (0..64).filter(|bit| bits >> bit & 1 == 1);
-    let named = set.map(|bit| format!("bit {bit} ({})", BITS.get(bit).unwrap_or(&"not known")));
-    let named: Vec<String> = named.collect();
-    format!("incompatible_features has {}; none is accepted", named.join(", "))
+    set.map(|bit| format!("bit {bit} ({})", names.get(bit).unwrap_or(&"not known"))).collect()
 }
 
-fn advice_incompatible(subject: &Subject, bits: u64) -> String {
-    match bits {
-        1 => format!(
-            "`qemu-img check -r all {}` puts the counts right and clears the bit.",
-            subject.word()
-        ),
-        2 | 3 => "Run `qemu-img check -r all` on a copy, then look at what is left.".into(),
-        _ => subject.convert(),
-    }
+fn incompatible(bits: u64) -> String {
+    let named = named_bits(bits, INCOMPATIBLE_BITS).join(", ");
+    format!("incompatible_features has {named}; none is accepted")
+}
+
+fn remedy_incompatible(bits: u64) -> Remedy {
+    let note = match bits {
+        1 => "The disk's bytes are not affected by the counts.",
+        2 | 3 => "The new one has what qemu can still read.",
+        _ => "",
+    };
+    Remedy::NewImage(note.into())
 }
 
 #[cfg(test)]
@@ -108,5 +108,6 @@ mod tests {
         let text = incompatible(0b11 | 1 << 40);
         assert!(text.contains("bit 0 (dirty") && text.contains("bit 1 (corrupt"));
         assert!(text.contains("bit 40 (not known)"));
+        assert_eq!(named_bits(1, COMPATIBLE_BITS), ["bit 0 (lazy refcounts)"]);
     }
 }

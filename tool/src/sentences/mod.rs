@@ -1,12 +1,24 @@
 //! A refusal in words: what is wrong, told by the image's own fields, and what
-//! can be done about it.
+//! can be done about it without losing a byte.
 
 mod blocks;
+pub mod commands;
+mod copy;
 mod features;
+mod format;
 mod header;
-mod request;
+mod qemu;
+pub mod request;
+mod room;
+mod tail;
 
 use std::path::Path;
+
+use crate::json::Json;
+use commands::Commands;
+
+pub use copy::NewImage;
+pub use features::{named_bits, AUTOCLEAR_BITS, COMPATIBLE_BITS, INCOMPATIBLE_BITS};
 
 /// The file that a refusal is about.
 pub struct Subject<'a> {
@@ -24,11 +36,11 @@ pub enum Request {
         offset: u64,
         length: u64,
     },
-    /// `done` bytes of the write were accepted before the refusal.
     Write {
         offset: u64,
         length: u64,
-        done: u64,
+        /// Was the input read to its end? Else it is longer than `length`.
+        whole: bool,
     },
     Discard {
         cluster: u64,
@@ -40,40 +52,104 @@ pub struct Refusal {
     pub number: u32,
     pub what: String,
     pub advice: String,
+    /// More for the JSON object.
+    pub members: Vec<(&'static str, Json)>,
 }
 
-/// The sentence for a number from 1 to 18.
+/// What can be done about a refusal.
+pub enum Remedy {
+    /// A change to the file that loses nothing. A new image does without it.
+    InPlace(String),
+    /// A new image, with what has to be said beside it.
+    NewImage(String),
+    /// The same with so many bytes of room in it.
+    Roomy(u64, String),
+    /// What a new image does not change.
+    Other(String),
+}
+
+/// A refusal before its advice is put together.
+pub struct Sentence {
+    pub number: u32,
+    pub what: String,
+    pub remedy: Remedy,
+    pub members: Vec<(&'static str, Json)>,
+}
+
+impl Sentence {
+    fn new(number: u32, (what, remedy): (String, Remedy)) -> Sentence {
+        Sentence { number, what, remedy, members: Vec::new() }
+    }
+}
+
+/// The refusal for a number from 1 to 18.
 pub fn refusal(number: u32, subject: &Subject, request: Request) -> Refusal {
-    let (what, advice) = match number {
+    let Sentence { number, what, remedy, members } = sentence(number, subject, request);
+    Refusal { number, what, advice: subject.advice(remedy), members }
+}
+
+/// What is wrong and what can be done, for a number from 1 to 18.
+pub fn sentence(number: u32, subject: &Subject, request: Request) -> Sentence {
+    let words = match number {
         1..=5 => header::shape(number, subject),
         6 | 7 => features::sentence(number, subject),
         8 | 9 => header::sizes(number, subject),
         10 => blocks::sentence(subject),
-        11..=17 => request::sentence(number, subject, request),
+        12 | 13 => return request::entry(number, subject, request),
+        14 => room::sentence(subject, request),
+        11 | 15..=17 => request::sentence(number, subject, request),
         18 => header::sectors(subject),
-        _ => ("the core answered with an unknown number".into(), "Report this.".into()),
+        _ => (
+            "the core answered with an unknown number".into(),
+            Remedy::Other("Report this.".into()),
+        ),
     };
-    Refusal { number, what, advice }
+    Sentence::new(number, words)
+}
+
+/// How to look at an image without the change that is advised.
+const WITHOUT: &str = "With --as-if-mended info, check, map and read do as if that were done.";
+
+/// Two sentences, of which the second may be empty.
+pub fn joined(first: &str, second: &str) -> String {
+    if second.is_empty() {
+        return first.into();
+    }
+    format!("{first} {second}")
 }
 
 impl Subject<'_> {
-    /// The path as a word of a shell command.
-    fn word(&self) -> String {
-        let text = self.path.to_string_lossy();
-        let safe = |letter: char| letter.is_ascii_alphanumeric() || "/._-+=:,@%".contains(letter);
-        if !text.is_empty() && text.chars().all(safe) {
-            return text.into_owned();
-        }
-        format!("'{}'", text.replace('\'', "'\\''"))
+    fn commands(&self) -> Commands {
+        Commands::of(self.path)
     }
 
-    /// How a new image is made that is accepted.
-    fn convert(&self) -> String {
-        format!(
-            "Make a new image: `qemu-img convert -O qcow2 -o compat=0.10 {} NEW.qcow2`, then \
-             `truncate -s %65536 NEW.qcow2` so that it has whole clusters.",
-            self.word()
-        )
+    pub fn advice(&self, remedy: Remedy) -> String {
+        let (room, text) = match remedy {
+            Remedy::InPlace(text) | Remedy::Other(text) => return self.printable(text),
+            Remedy::NewImage(text) => (0, text),
+            Remedy::Roomy(room, text) => (room, text),
+        };
+        let advice = match self.new_image(room) {
+            Ok(new_image) => joined(&new_image.whole(), &text),
+            Err(reason) => reason,
+        };
+        self.printable(advice)
+    }
+
+    /// How a new image is made that is accepted, or why none can be.
+    pub fn new_image(&self, room: u64) -> Result<NewImage, String> {
+        copy::new_image(self, room)
+    }
+
+    /// The advice, if the commands in it can name the file.
+    pub fn printable(&self, advice: String) -> String {
+        let plain = |name: &str| !name.chars().any(char::is_control);
+        if self.path.to_str().is_some_and(plain) || !advice.contains(commands::MARK) {
+            return advice;
+        }
+        "The file's name cannot be printed, so no command can name it: give it another name, or a \
+         hard link with one, and ask again under that."
+            .into()
     }
 }
 
@@ -82,20 +158,12 @@ mod tests {
     use super::*;
 
     #[test]
-    fn words_of_a_shell() {
-        let word = |path| Subject { path: Path::new(path), length: 0, bytes: &[] }.word();
-        assert_eq!(word("a/b-1.qcow2"), "a/b-1.qcow2");
-        assert_eq!(word("my disk"), "'my disk'");
-        assert_eq!(word("it's"), "'it'\\''s'");
-        assert_eq!(word(""), "''");
-    }
-
-    #[test]
     fn every_number_has_a_sentence_for_any_bytes() {
         let requests = [
             Request::Look,
             Request::Read { offset: u64::MAX, length: u64::MAX },
-            Request::Write { offset: u64::MAX, length: u64::MAX, done: 0 },
+            Request::Write { offset: u64::MAX, length: u64::MAX, whole: true },
+            Request::Write { offset: 0, length: 1 << 30, whole: false },
             Request::Discard { cluster: u64::MAX },
         ];
         let long = vec![0xFF; 1024];

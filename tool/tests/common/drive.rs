@@ -1,20 +1,39 @@
-//! A drive that forgets.
+//! A drive that forgets, behind a cache.
 
 use std::io;
+use std::path::Path;
 
+use qstore::commands::change::open_usable;
 use qstore::disk::Disk;
+use qstore::image_file::{Access, ImageFile};
+use qstore::ordered::Ordered;
+use qstore::report::Failure;
 
 const SECTOR: usize = 512;
 
+pub type Stores = Vec<(usize, Vec<u8>)>;
+
 /// Stores since each flush; fails at a store or flush, if so told.
-#[derive(Default)]
 pub struct Drive {
-    pub epochs: Vec<Vec<(usize, Vec<u8>)>>,
-    pub open: Vec<(usize, Vec<u8>)>,
+    /// What a load gives, flushed or not.
+    pub cache: Vec<u8>,
+    pub epochs: Vec<Stores>,
+    pub open: Stores,
     pub left: Option<usize>,
 }
 
 impl Drive {
+    pub fn with(image: &[u8]) -> Drive {
+        Drive::behind(image, vec![])
+    }
+
+    /// The drive holds the image; the cache is ahead by these stores.
+    pub fn behind(image: &[u8], open: Stores) -> Drive {
+        let mut cache = image.to_vec();
+        put(&mut cache, &sectors(&open));
+        Drive { cache, epochs: vec![], open, left: None }
+    }
+
     fn spend(&mut self) -> io::Result<()> {
         match &mut self.left {
             Some(0) => Err(io::Error::other("no more")),
@@ -28,9 +47,19 @@ impl Drive {
 }
 
 impl Disk for Drive {
+    fn length(&self) -> io::Result<u64> {
+        Ok(self.cache.len() as u64)
+    }
+
+    fn load(&self, at: u64, bytes: &mut [u8]) -> io::Result<()> {
+        bytes.copy_from_slice(&self.cache[at as usize..][..bytes.len()]);
+        Ok(())
+    }
+
     fn store(&mut self, at: u64, bytes: &[u8]) -> io::Result<()> {
         self.spend()?;
         self.open.push((at as usize, bytes.to_vec()));
+        put(&mut self.cache, &[(at as usize, bytes)]);
         Ok(())
     }
 
@@ -39,6 +68,16 @@ impl Disk for Drive {
         self.epochs.push(std::mem::take(&mut self.open));
         Ok(())
     }
+}
+
+/// The image on a drive, as a command that changes it opens it.
+pub fn open<D: Disk>(drive: D) -> Result<ImageFile<D>, Failure> {
+    ImageFile::read(Path::new("drive"), drive, Access::Change, false)
+}
+
+/// The same for a write or discard.
+pub fn usable<D: Disk>(drive: D) -> Ordered<D> {
+    open(drive).and_then(open_usable).ok().expect("a usable image").1
 }
 
 pub struct Random(pub u64);

@@ -2,6 +2,7 @@
 #![allow(dead_code)]
 
 pub mod drive;
+pub mod made;
 
 use std::fs;
 use std::io::Write;
@@ -121,5 +122,25 @@ pub fn bench_image() -> Vec<u8> {
     put(100, &104u32.to_be_bytes());
     put(512, &1024u64.to_be_bytes());
     put(1024, &[0, 1, 0, 1, 0, 1, 0, 1]);
+    image
+}
+
+/// The bench image's layout with this many clusters of 2^bits bytes each, and
+/// a disk of this size.
+pub fn with_clusters(bits: u32, clusters: usize, size: u64) -> Vec<u8> {
+    let cluster = 1usize << bits;
+    let mut image = bench_image();
+    let counts = image[1024..1032].to_vec();
+    image.truncate(104);
+    image.resize(clusters * cluster, 0);
+    let mut put = |at: usize, number: u64| {
+        image[at..at + 8].copy_from_slice(&number.to_be_bytes());
+    };
+    put(24, size);
+    put(40, 3 * cluster as u64);
+    put(48, cluster as u64);
+    put(cluster, 2 * cluster as u64);
+    image[23] = bits as u8;
+    image[2 * cluster..][..8].copy_from_slice(&counts);
     image
 }

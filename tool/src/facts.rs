@@ -1,0 +1,111 @@
+//! What the header says, whether or not the image is accepted.
+
+use crate::fields::Fields;
+use crate::image_file::Own;
+use crate::json::Json;
+use crate::sentences::{named_bits, AUTOCLEAR_BITS, COMPATIBLE_BITS, INCOMPATIBLE_BITS};
+
+/// The header of a file, as lines and as members of a JSON object.
+pub struct Facts {
+    pub text: String,
+    pub members: Vec<(&'static str, Json)>,
+}
+
+/// The length alone, if the bytes do not begin as a qcow2 image does, and the
+/// version beside it, if other versions have other fields. `own` is of the file
+/// as it is.
+pub fn facts(bytes: &[u8], own: Own) -> Facts {
+    let is_image = bytes.starts_with(&[0x51, 0x46, 0x49, 0xFB]);
+    let file_size = own.length;
+    let Some(fields) = Fields::read(bytes).filter(|_| is_image) else {
+        let text = format!("file size: {file_size}\n");
+        return Facts { text, members: vec![("file_size", file_size.into())] };
+    };
+    if ![2, 3].contains(&fields.version) {
+        let text = format!("version: {}\nfile size: {file_size}\n", fields.version);
+        let members = vec![("version", fields.version.into()), ("file_size", file_size.into())];
+        return Facts { text, members };
+    }
+    let fields = Fields { header_length: own.header_length, ..fields };
+    let clusters = match (1u64.checked_shl(fields.cluster_bits), fields.cluster()) {
+        (_, Some(size)) => format!(" ({})", clusters(file_size, size)),
+        (Some(size), None) => format!(" (clusters of {size} bytes)"),
+        _ => String::new(),
+    };
+    let mut text = format!(
+        "version: {}\nfile size: {file_size}{clusters}\ndisk size: {}\nL1 entries: {}\nrefcount \
+         bits: {}\n",
+        fields.version,
+        fields.size,
+        fields.l1_size,
+        fields.count_width().map_or("not known".into(), |width| width.to_string())
+    );
+    if fields.version == 3 {
+        text += &format!("header length: {}\n", fields.header_length);
+    }
+    for (name, said) in unusual(&fields, bytes) {
+        text += &format!("{name}: {said}\n");
+    }
+    Facts { text, members: members(&fields, bytes, file_size) }
+}
+
+/// Whole clusters, and a word on what is left.
+fn clusters(file_size: u64, cluster: u64) -> String {
+    let rest = if file_size.is_multiple_of(cluster) { "" } else { " and a part of one" };
+    format!("{} clusters of {cluster} bytes{rest}", file_size / cluster)
+}
+
+/// What most images do not have.
+fn unusual(fields: &Fields, bytes: &[u8]) -> Vec<(&'static str, String)> {
+    let mut lines = Vec::new();
+    for (name, bits, names) in features(fields) {
+        if bits != 0 {
+            lines.push((name, format!("0x{bits:x}: {}", named_bits(bits, names).join(", "))));
+        }
+    }
+    if fields.backing != 0 {
+        let name = fields.backing_name(bytes);
+        lines.push(("backing file", name.map_or("not readable".into(), |it| format!("{it:?}"))));
+    }
+    if fields.crypt != 0 {
+        lines.push(("encryption method", fields.crypt.to_string()));
+    }
+    if fields.snapshots != 0 {
+        lines.push(("snapshots", fields.snapshots.to_string()));
+    }
+    lines
+}
+
+type Feature = (&'static str, u64, &'static [&'static str]);
+
+fn features(fields: &Fields) -> [Feature; 3] {
+    [
+        ("incompatible_features", fields.incompatible, INCOMPATIBLE_BITS),
+        ("compatible_features", fields.compatible, COMPATIBLE_BITS),
+        ("autoclear_features", fields.autoclear, AUTOCLEAR_BITS),
+    ]
+}
+
+fn members(fields: &Fields, bytes: &[u8], file_size: u64) -> Vec<(&'static str, Json)> {
+    let number = |number: Option<u64>| number.map_or(Json::Null, Json::Number);
+    let mut members = vec![
+        ("version", fields.version.into()),
+        ("file_size", file_size.into()),
+        ("cluster_size", number(1u64.checked_shl(fields.cluster_bits))),
+        ("clusters", number(fields.cluster().map(|cluster| file_size / cluster))),
+        ("disk_size", fields.size.into()),
+        ("l1_size", fields.l1_size.into()),
+        ("backing_file", fields.backing_name(bytes).map_or(Json::Null, Json::Text)),
+        ("crypt_method", fields.crypt.into()),
+        ("snapshots", fields.snapshots.into()),
+        ("refcount_bits", number(fields.count_width())),
+        ("header_length", number((fields.version == 3).then_some(fields.header_length.into()))),
+    ];
+    let mut names = Vec::new();
+    for (name, bits, known) in features(fields) {
+        members.push((name, bits.into()));
+        names.extend(named_bits(bits, known).into_iter().map(|it| format!("{name} {it}").into()));
+    }
+    members.push(("features", Json::List(names)));
+    members
+}

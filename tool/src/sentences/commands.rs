@@ -1,0 +1,127 @@
+//! Every command that a sentence advises. None of them can lose a byte; each
+//! is run by a test, which `interop/advised.tsv` names.
+
+use std::path::Path;
+
+/// What an image that qemu makes anew is like, so that it is accepted.
+const NEW_OPTIONS: &str = "compat=0.10,cluster_size=65536";
+pub const NEW_CLUSTER: u64 = 65_536;
+/// What stands before and after each command.
+pub const MARK: char = '\x60';
+
+/// The path as a word of a shell command.
+fn word(text: &str) -> String {
+    let safe = |letter: char| letter.is_ascii_alphanumeric() || "/._-+=:,@%".contains(letter);
+    // Else it would be taken for an option, or by qemu for a protocol.
+    let other = text.starts_with('-') || text.split('/').next().is_some_and(|it| it.contains(':'));
+    let text = format!("{}{text}", if other { "./" } else { "" });
+    if !text.is_empty() && text.chars().all(safe) {
+        return text;
+    }
+    format!("'{}'", text.replace('\'', "'\\''"))
+}
+
+/// A name beside the image that no file has.
+fn new_name(image: &str) -> String {
+    let mut name = format!("{image}.new");
+    let mut number = 2;
+    while Path::new(&name).symlink_metadata().is_ok() {
+        name = format!("{image}.new{number}");
+        number += 1;
+    }
+    name
+}
+
+/// The commands about one image.
+pub struct Commands {
+    image: String,
+    new: String,
+}
+
+impl Commands {
+    pub fn of(path: &Path) -> Commands {
+        // Advice with a name that cannot be printed is not shown.
+        let image = path.to_str().unwrap_or("IMAGE");
+        Commands { image: word(image), new: word(&new_name(image)) }
+    }
+
+    /// Never shortens.
+    pub fn pad(&self, cluster: u64) -> String {
+        format!("`truncate -s %{cluster} {}`", self.image)
+    }
+
+    /// Never shortens.
+    pub fn append(&self, bytes: u64) -> String {
+        format!("`truncate -s +{bytes} {}`", self.image)
+    }
+
+    /// For a tail that was looked at: zeros that nothing refers to.
+    pub fn shorten(&self, length: u64) -> String {
+        format!("`truncate -s {length} {}`", self.image)
+    }
+
+    /// One byte, which `printf p` would set again.
+    pub fn set_length_back(&self) -> String {
+        format!("`printf h | dd of={} bs=1 seek=103 conv=notrunc`", self.image)
+    }
+
+    /// A disk that qemu takes for shorter than it is; resize shortens none.
+    pub fn lengthen_disk(&self, size: u64) -> String {
+        format!("`qemu-img resize -f qcow2 {} {size}`", self.image)
+    }
+
+    pub fn check(&self) -> String {
+        format!("`qstore check {}`", self.image)
+    }
+
+    /// A copy as a new file, of whole clusters and with room. All is one command:
+    /// what a copy that failed has left must not be made to look whole.
+    pub fn convert(&self, format: &str, room: u64) -> String {
+        format!("`qemu-img convert -f {format} {}`", self.to_new(room))
+    }
+
+    /// The same with zeros for what cannot be read.
+    pub fn salvage(&self) -> String {
+        format!("`qemu-img convert --salvage -f qcow2 {}`", self.to_new(0))
+    }
+
+    fn to_new(&self, room: u64) -> String {
+        let Commands { image, new } = self;
+        let more = match room {
+            0 => String::new(),
+            room => format!(" && truncate -s +{room} {new}"),
+        };
+        format!("-O qcow2 -o {NEW_OPTIONS} {image} {new} && truncate -s %{NEW_CLUSTER} {new}{more}")
+    }
+
+    pub fn compare(&self, format: &str) -> String {
+        format!("`qemu-img compare -f {format} -F qcow2 {} {}`", self.image, self.new)
+    }
+}
+
+#[cfg(test)]
+mod tests {
+    use super::*;
+
+    #[test]
+    fn words_of_a_shell() {
+        assert_eq!(word("a/b-1.qcow2"), "a/b-1.qcow2");
+        assert_eq!(word("my disk"), "'my disk'");
+        assert_eq!(word("it's"), "'it'\\''s'");
+        assert_eq!((word("-r"), word("nbd:x")), ("./-r".into(), "./nbd:x".into()));
+        assert_eq!(word(""), "''");
+    }
+
+    #[test]
+    fn new_names_are_free() {
+        let folder = std::env::temp_dir().join(format!("qstore-names-{}", std::process::id()));
+        std::fs::create_dir_all(&folder).unwrap();
+        let image = folder.join("a").to_str().unwrap().to_owned();
+        for number in ["", "2", "3"] {
+            let name = new_name(&image);
+            assert_eq!(name, format!("{image}.new{number}"));
+            std::fs::write(name, "").unwrap();
+        }
+        std::fs::remove_dir_all(&folder).unwrap();
+    }
+}

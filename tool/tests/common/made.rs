@@ -1,0 +1,95 @@
+//! Images made by hand.
+
+/// Puts a number of eight bytes.
+pub fn put64(image: &mut [u8], at: usize, number: u64) {
+    image[at..at + 8].copy_from_slice(&number.to_be_bytes());
+}
+
+pub fn get64(image: &[u8], at: usize) -> u64 {
+    u64::from_be_bytes(image[at..at + 8].try_into().unwrap())
+}
+
+/// An empty image: header, refcount table, blocks, L1 table, free clusters.
+pub struct Made {
+    pub image: Vec<u8>,
+    pub cluster: usize,
+    pub table_at: usize,
+    pub block_at: usize,
+    pub l1_at: usize,
+}
+
+pub fn made(version: u8, bits: u32, clusters: usize, size: u64) -> Made {
+    let cluster = 1usize << bits;
+    let blocks = clusters.div_ceil(cluster / 2);
+    // One entry more than is needed.
+    let table_clusters = (8 * (blocks + 1)).div_ceil(cluster);
+    let l1_size = (size as usize).div_ceil(cluster * cluster / 8);
+    let l1_clusters = (8 * l1_size).div_ceil(cluster);
+    let block_at = (1 + table_clusters) * cluster;
+    let l1_at = block_at + blocks * cluster;
+    let used = l1_at / cluster + l1_clusters;
+    assert!(used <= clusters);
+    let mut image = vec![0; clusters * cluster];
+    image[..8].copy_from_slice(&[0x51, 0x46, 0x49, 0xFB, 0, 0, 0, version]);
+    image[23] = bits as u8;
+    put64(&mut image, 24, size);
+    image[36..40].copy_from_slice(&(l1_size as u32).to_be_bytes());
+    put64(&mut image, 40, l1_at as u64);
+    put64(&mut image, 48, cluster as u64);
+    image[56..60].copy_from_slice(&(table_clusters as u32).to_be_bytes());
+    if version == 3 {
+        (image[99], image[103]) = (4, 104);
+    }
+    for block in 0..blocks {
+        put64(&mut image, cluster + 8 * block, (block_at + block * cluster) as u64);
+    }
+    for index in 0..used {
+        image[block_at + 2 * index + 1] = 1;
+    }
+    Made { image, cluster, table_at: cluster, block_at, l1_at }
+}
+
+/// The disk as the tables alone give it: the counts are not looked at, and what
+/// lies past the file's end reads as zeros.
+pub fn guest_by_tables(image: &[u8]) -> Vec<u8> {
+    let bits = u32::from(image[23]);
+    let (cluster, size) = (1usize << bits, get64(image, 24) as usize);
+    let l1_at = get64(image, 40) as usize;
+    let entry = |at: usize| if at + 8 <= image.len() { get64(image, at) } else { 0 };
+    let place = |entry: u64| (entry & 0x00FF_FFFF_FFFF_FE00) as usize;
+    let mut guest = vec![0; size];
+    for (index, part) in guest.chunks_mut(cluster).enumerate() {
+        let table = place(entry(l1_at + 8 * (index / (cluster / 8))));
+        if table == 0 {
+            continue;
+        }
+        let l2_entry = entry(table + 8 * (index % (cluster / 8)));
+        let host = place(l2_entry);
+        let stop = (host + part.len()).min(image.len());
+        if host != 0 && host < stop && l2_entry & 1 == 0 {
+            part[..stop - host].copy_from_slice(&image[host..stop]);
+        }
+    }
+    guest
+}
+
+/// Does a table or an entry name a byte at or past `end`?
+pub fn names_past(image: &[u8], end: usize) -> bool {
+    let cluster = 1usize << image[23];
+    let place = |entry: u64| (entry & 0x00FF_FFFF_FFFF_FE00) as usize;
+    let entries = |at: usize, number: usize| {
+        let range = at.min(image.len())..(at + 8 * number).min(image.len());
+        image[range].chunks_exact(8).map(|entry| place(get64(entry, 0))).collect::<Vec<usize>>()
+    };
+    let l1_size = u32::from_be_bytes(image[36..40].try_into().unwrap()) as usize;
+    let table_clusters = u32::from_be_bytes(image[56..60].try_into().unwrap()) as usize;
+    let (l1_at, table_at) = (get64(image, 40) as usize, get64(image, 48) as usize);
+    let past = |at: &usize| *at != 0 && at + cluster > end;
+    let tables = entries(l1_at, l1_size);
+    let data = tables.iter().filter(|at| **at != 0).flat_map(|&at| entries(at, cluster / 8));
+    l1_at + 8 * l1_size > end
+        || table_at + table_clusters * cluster > end
+        || entries(table_at, table_clusters * cluster / 8).iter().any(past)
+        || tables.iter().any(past)
+        || data.into_iter().any(|at| past(&at))
+}
