@@ -156,7 +156,7 @@ pub fn is_marked(e: u64, version: u32, n: u64, bits: u32) -> bool
     is_plain(e - 1, n, bits)
 }
 
-// The number of an entry that is refused. By comparisons, since a test of one bit would split the load of the entry.
+// The number of an entry that is refused, by comparisons alone.
 fn refusal(e: u64) -> u8
     ensures { λ r. ⌜ r ≡ (if compressed e then 13 else 12) ⌝ }
 {
