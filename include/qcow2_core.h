@@ -26,9 +26,13 @@
  * Words
  *   C is the cluster size, 2 to the power cluster_bits; N = n / C the clusters
  *   of the image; size the guest disk's length in bytes. A stored count is a
- *   cluster's refcount (16 bits), its references are what the tables name.
+ *   cluster's refcount, its references are what the tables name. It has 2 to the
+ *   power refcount_order bits, 1 to 64, and 16 in version 2; a refcount block
+ *   holds as many as C bytes do. Counts of 8 bits and more are big-endian; below
+ *   that a byte holds several, the lowest cluster's in its lowest bits.
  *   A unit is the storing of one count, of one L1 or L2 entry, of the autoclear
- *   field, or of one byte of a fill.
+ *   field, or of one byte of a fill. One that stores a count below 8 bits leaves
+ *   the other counts of the byte as they stand then.
  *
  * Answers
  *   0 is done: finished, sound, listed, or a host offset, as the call has it.
@@ -63,8 +67,8 @@ extern "C" {
 #define QCOW2_WRONG_CLUSTER_BITS 4u
 /* n is not a whole number of clusters, or is above 1,073,741,824. */
 #define QCOW2_WRONG_LENGTH 5u
-/* A backing file, encryption or snapshots; in version 3 also counts of another
- * width than 16 bits (refcount_order not 4) or a header_length other than 104. */
+/* A backing file, encryption or snapshots; in version 3 also a refcount_order
+ * above 6 (counts of more than 64 bits) or a header_length other than 104. */
 #define QCOW2_NOT_SUPPORTED 6u
 /* Version 3: a bit of incompatible_features is set. */
 #define QCOW2_INCOMPATIBLE 7u
@@ -223,10 +227,10 @@ uint32_t qcow2_check(const uint8_t *image, size_t n, uint8_t *scratch, size_t m,
                      uint64_t *second);
 
 /*
- * A cluster's stored count less the scratch's figure, from -2 to 65,535. Below
- * zero the cluster is short, above zero it leaks.
+ * A cluster's stored count less the scratch's figure, from -2 to 65,535, where it
+ * is cut off. Below zero the cluster is short, above zero it leaks.
  */
-int32_t qcow2_difference(uint16_t stored, uint8_t figure);
+int32_t qcow2_difference(uint64_t stored, uint8_t figure);
 
 #ifdef __cplusplus
 }

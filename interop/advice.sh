@@ -73,7 +73,7 @@ create b 1M; fill b; create a 1M -b b -F qcow2; heed "a backing file" a '5 6'
 create a 1M; fill a; qemu-img snapshot -c s a; fill a; heed "a snapshot" a 6
 create a 1M; fill a; qemu-img bitmap --add a b; heed "a persistent bitmap" a '5 6'
 create a 1M -o cluster_size=2M; fill a; heed "-o cluster_size=2M" a 6
-for bits in 1 64; do
+for bits in 1 2 4 8 32 64; do
     create a 1M -o refcount_bits=$bits; fill a; heed "-o refcount_bits=$bits" a 6
 done
 create a 1M -o extended_l2=on; fill a; heed "-o extended_l2=on" a '5 6'
@@ -164,7 +164,9 @@ expect "  the bytes are there" "$text" yes
 create a 1M -o compat=0.10; fill a; qemu-img convert -O raw a a.raw; truncate -s 104448 a.raw
 patch a 29 '\001\226A'; heed "a disk of 104,001 bytes" a 18
 create a 1M -o refcount_bits=8; fill a; older a; qemu-img convert -O raw a a.raw; truncate -s 104448 a.raw
-patch a 29 '\001\226A'; listed "  with counts of 8 bits" a '6 18'
+patch a 29 '\001\226A'; heed "  with counts of 8 bits" a 18
+create a 1M; fill a; qemu-img convert -O raw a a.raw; truncate -s 104448 a.raw
+patch a 29 '\001\226A'; patch a 112 unkn; listed "  with an unknown header extension" a '6 18'
 
 # Where the advice is to leave the file, since qemu refuses it too.
 refuses() { # WHAT OFFSET BYTES NUMBER

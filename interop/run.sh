@@ -106,11 +106,18 @@ create a 1M -o cluster_size=4M 2> /dev/null && text=made || text=refused
 expect "-o cluster_size=4M, by qemu" "$text" refused
 create a 1G -o preallocation=metadata
 made "a file above 1,073,741,824 bytes" a 'refused 5; refused 5; refused 5'
+for bits in 1 2 4 8 32 64; do
+    create a 1M -o refcount_bits=$bits; made "-o refcount_bits=$bits" a "$usual"
+    create a 1M -o refcount_bits=$bits; fill a; made "  written by qemu" a "$whole"
+    create a 1M -o refcount_bits=$bits,cluster_size=512,preallocation=full
+    made "  with clusters of 512 bytes, preallocated" a "$whole"
+done
+create a 1M -o refcount_bits=128 2> /dev/null && text=made || text=refused
+expect "-o refcount_bits=128, by qemu" "$text" refused
 create b 1M; create a 1M -b b -F qcow2; made "-b (backing file)" a 'refused 5; refused 6; refused 6'
 create a 1M --object secret,id=s,data=x -o encrypt.format=luks,encrypt.key-secret=s
 made "-o encrypt.format=luks" a 'refused 6; refused 6; refused 6'
 create a 1M; qemu-img snapshot -c s a; made "a snapshot" a 'refused 5; refused 6; refused 6'
-create a 1M -o refcount_bits=8; made "-o refcount_bits=8" a 'refused 5; refused 6; refused 6'
 create a 1M -o extended_l2=on; made "-o extended_l2=on" a 'refused 5; refused 6; refused 7'
 create a 1M -o lazy_refcounts=on
 bash -c "qemu-io -f qcow2 -c 'write 0 100k' -c abort a; true" > /dev/null 2>&1

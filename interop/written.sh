@@ -18,8 +18,15 @@ start() { # FILE SIZE ROOM OPTIONS: an image with ROOM free clusters
     rm -f "$1.raw"; truncate -s "$2" "$1.raw"
 }
 
+repaired() { # FILE: that leaks, by either
+    cp "$1" mended; qemu-img check -q -f qcow2 -r leaks mended > /dev/null 2>&1
+    "$QSTORE" repair "$1" > /dev/null
+    expect "  repaired by qstore" "$(ours "$1"), $(theirs "$1")" 'sound, sound'
+    expect "  repaired by qemu" "$(ours mended), $(theirs mended)" 'sound, sound'
+}
+
 # A command cut after some units: qemu finds the same leaks, the guest's bytes
-# are the old ones, and after the repair all is sound.
+# are the old ones, and after a repair by either all is sound.
 cut() { # WHAT UNITS WANTED COMMAND OFFSET [LENGTH]
     local what=$1 units=$2 wanted=$3; shift 3
     local command=$1; shift
@@ -27,8 +34,7 @@ cut() { # WHAT UNITS WANTED COMMAND OFFSET [LENGTH]
     head -c 100 /dev/urandom | "$QSTORE" "$command" cut "$@" --allowance "$units" > /dev/null || true
     expect "$what cut after $units units: qstore, qemu" "$(ours cut), $(theirs cut)" "$wanted, $wanted"
     [ "$command" = write ] && expect "  the guest's bytes" "$(compare cut)" identical
-    "$QSTORE" repair cut > /dev/null
-    expect "  repaired by qstore" "$(ours cut), $(theirs cut)" 'sound, sound'
+    repaired cut
 }
 
 series() { # SIZE ROOM OPTIONS
@@ -51,6 +57,9 @@ series() { # SIZE ROOM OPTIONS
     "$QSTORE" discard w $((6 * c)) $((2 * c)) > /dev/null
     dd if=/dev/zero of=w.raw bs=$c seek=6 count=2 conv=notrunc status=none
     expect "discarded by qstore" "$(theirs w), $(compare w)" 'sound, identical'
+    qemu-io -f qcow2 -d unmap -c "discard $((5 * c)) $c" w > /dev/null
+    dd if=/dev/zero of=w.raw bs=$c seek=5 count=1 conv=notrunc status=none
+    expect "discarded by qemu" "$(ours w), $(compare w)" 'sound, identical'
     qemu-io -f qcow2 -c "write -P 0x55 $((2 * c)) $((3 * c))" w > /dev/null
     qemu-io -f raw -c "write -P 0x55 $((2 * c)) $((3 * c))" w.raw > /dev/null
     pad w
@@ -67,6 +76,29 @@ series 1048576 40 compat=1.1,cluster_size=4096
 series 16777216 40 compat=0.10,cluster_size=65536
 series 1073741824 40 compat=1.1,cluster_size=65536
 series 134217728 40 compat=1.1,cluster_size=2M
+# Counts of other widths. With 64 bits a block of 512 bytes counts 64 clusters.
+for bits in 1 2 4 8 32 64; do
+    series 65536 60 compat=1.1,cluster_size=512,refcount_bits=$bits
+done
+for bits in 1 4 64; do
+    series 16777216 40 compat=1.1,cluster_size=65536,refcount_bits=$bits
+done
+
+echo "-- a leaked cluster with the largest count"
+for bits in 1 2 4 8 16 32 64; do
+    start w 65536 20 compat=1.1,cluster_size=512,refcount_bits=$bits
+    block=$(field w $(($(field w 52) + 4)))
+    # Cluster 16 has the lowest bits of its byte.
+    case $bits in
+        1) count='\001' ;;
+        2) count='\003' ;;
+        4) count='\017' ;;
+        *) count=$(printf '\\377%.0s' $(seq $((bits / 8)))) ;;
+    esac
+    printf "$count" | dd of=w bs=1 seek=$((block + 16 * bits / 8)) conv=notrunc status=none
+    expect "of $bits bits: qstore, qemu" "$(ours w), $(theirs w)" 'leaks 1, leaks 1'
+    repaired w
+done
 
 echo "-- a preallocated image, and zero marks"
 create w 1M -o preallocation=metadata,cluster_size=4096; pad w; shorten w

@@ -158,6 +158,26 @@ static void discard(void)
     expect("check: sound", check(&first), QCOW2_DONE);
     expect("  free clusters", free_clusters(), 11);
     expect("a count of 0 with two references is short by", (uint64_t)-qcow2_difference(0, 2), 2);
+    expect("a difference is cut off at", (uint64_t)qcow2_difference(UINT64_MAX, 0), 65535);
+}
+
+/* Counts of 1 bit: those of clusters 0 to 7 share a byte. */
+static void narrow_counts(void)
+{
+    uint64_t units = 0, first = 0;
+    make_image();
+    store(96, 0, 4);
+    store(2 * CLUSTER, (uint64_t)0x0F << 56, 8);
+    expect("counts of 1 bit, check: sound", check(&first), QCOW2_DONE);
+    expect("write cut after 1 unit: stopped", write_text(33285, "hello", 1, &units), QCOW2_STOPPED);
+    expect("  the byte of the first eight counts", image[2 * CLUSTER], 0x1F);
+    expect("whole write: done", write_text(33285, "hello", UINT64_MAX, &units), QCOW2_DONE);
+    expect("  the byte of the first eight counts", image[2 * CLUSTER], 0x7F);
+    expect("repair: done", qcow2_repair(image, LENGTH, scratch, CLUSTERS, UINT64_MAX, &units),
+           QCOW2_DONE);
+    expect("  the byte of the first eight counts", image[2 * CLUSTER], 0x6F);
+    store(96, 7, 4);
+    expect("counts of 128 bits: refused", check(&first), QCOW2_NOT_SUPPORTED);
 }
 
 int main(void)
@@ -171,6 +191,7 @@ int main(void)
     autoclear();
     refusals();
     discard();
+    narrow_counts();
     puts(failed ? "example: WRONG" : "example: all as expected");
     return failed;
 }

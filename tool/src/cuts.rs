@@ -71,7 +71,10 @@ pub const SECTOR: usize = 512;
 /// A flush for each count would be slow where there are many. But a sector is
 /// stored whole or not at all, which every store of an entry relies on too. So
 /// with a flush after each sector a power cut still leaves just the first units
-/// of the list: those of the sectors before, and of this one all or none.
+/// of the list: those of the sectors before, and of this one all or none. The
+/// width changes nothing of this: the counts of a sector are those of clusters
+/// one after the other, and no count, nor a byte that several share, lies over a
+/// sector's end. Counts past the image's end that share the last byte stay.
 pub fn of_repair<D: Disk>(layout: &Layout, disk: &D, after: &[u8]) -> io::Result<Vec<Batch>> {
     let mut batches = Vec::new();
     let mut bits = [0; 8];
@@ -84,8 +87,7 @@ pub fn of_repair<D: Disk>(layout: &Layout, disk: &D, after: &[u8]) -> io::Result
         disk.load(counts.start as u64, &mut before)?;
         let sectors = before.chunks(SECTOR).zip(after[counts.clone()].chunks(SECTOR));
         for (start, (old, new)) in counts.step_by(SECTOR).zip(sectors) {
-            let pairs = old.chunks(2).zip(new.chunks(2));
-            let units = pairs.filter(|(old, new)| old != new).count() as u64;
+            let units = layout.width.differing(old, new) as u64;
             if units > 0 {
                 batches.push(Batch { sector: start..start + SECTOR, units });
             }

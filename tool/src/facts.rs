@@ -4,6 +4,7 @@ use crate::fields::Fields;
 use crate::image_file::Own;
 use crate::json::Json;
 use crate::sentences::{named_bits, AUTOCLEAR_BITS, COMPATIBLE_BITS, INCOMPATIBLE_BITS};
+use crate::width::Width;
 
 /// The header of a file, as lines and as members of a JSON object.
 pub struct Facts {
@@ -38,7 +39,7 @@ pub fn facts(bytes: &[u8], own: Own) -> Facts {
         fields.version,
         fields.size,
         fields.l1_size,
-        fields.count_width().map_or("not known".into(), |width| width.to_string())
+        fields.width().map_or("not known".into(), |width| width.bits().to_string())
     );
     if fields.version == 3 {
         text += &format!("header length: {}\n", fields.header_length);
@@ -98,7 +99,7 @@ fn members(fields: &Fields, bytes: &[u8], file_size: u64) -> Vec<(&'static str, 
         ("backing_file", fields.backing_name(bytes).map_or(Json::Null, Json::Text)),
         ("crypt_method", fields.crypt.into()),
         ("snapshots", fields.snapshots.into()),
-        ("refcount_bits", number(fields.count_width())),
+        ("refcount_bits", number(fields.width().map(Width::bits))),
         ("header_length", number((fields.version == 3).then_some(fields.header_length.into()))),
     ];
     let mut names = Vec::new();

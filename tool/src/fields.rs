@@ -3,6 +3,8 @@
 
 use std::ops::{Range, RangeInclusive};
 
+use crate::width::Width;
+
 /// The cluster_bits that are accepted.
 pub const BITS: RangeInclusive<u32> = 9..=21;
 /// The longest image that is accepted.
@@ -42,10 +44,6 @@ pub struct Fields {
     pub autoclear: u64,
     pub order: u32,
     pub header_length: u32,
-}
-
-pub fn be16(bytes: &[u8], at: usize) -> Option<u16> {
-    Some(u16::from_be_bytes(bytes.get(at..at.checked_add(2)?)?.try_into().ok()?))
 }
 
 pub fn be32(bytes: &[u8], at: usize) -> Option<u32> {
@@ -92,9 +90,14 @@ impl Fields {
         features && self.snapshots == 0 && self.backing == 0 && self.crypt == 0
     }
 
-    /// Bits of a stored count, if refcount_order is one that qcow2 has.
-    pub fn count_width(&self) -> Option<u64> {
-        (self.order <= 6).then(|| 1 << self.order)
+    /// The width of the stored counts, if refcount_order is accepted.
+    pub fn width(&self) -> Option<Width> {
+        Width::of(self.order)
+    }
+
+    /// Clusters that a refcount block has counts for.
+    pub fn per_block(&self) -> Option<u64> {
+        Some(self.width()?.counts_in(self.cluster()? as usize) as u64)
     }
 
     /// The name of the backing file, if the bytes have it.
@@ -119,11 +122,11 @@ mod tests {
         let three = Fields::read(&bytes).unwrap();
         assert_eq!((three.order, three.header_length), (5, 112));
         assert_eq!((three.incompatible, three.autoclear), (u64::MAX, u64::MAX));
-        assert_eq!((three.compatible, three.count_width()), (u64::MAX, Some(32)));
-        assert_eq!(three.cluster(), Some(512));
+        assert_eq!((three.compatible, three.width()), (u64::MAX, Width::of(5)));
+        assert_eq!((three.cluster(), three.per_block()), (Some(512), Some(128)));
         bytes[7] = 2;
         let two = Fields::read(&bytes).unwrap();
-        assert_eq!((two.order, two.header_length), (4, 104));
+        assert_eq!((two.order, two.header_length, two.per_block()), (4, 104, Some(256)));
         assert_eq!((two.incompatible, two.autoclear, two.size), (0, 0, u64::MAX));
         assert_eq!((two.compatible, two.backing_name(&bytes)), (0, None));
         assert_eq!(Fields::read(&bytes[..103]), None);
@@ -145,9 +148,9 @@ mod tests {
 
     #[test]
     fn numbers_at_the_end() {
-        let bytes = [1, 2, 3];
-        assert_eq!(be16(&bytes, 1), Some(0x0203));
-        assert_eq!((be16(&bytes, 2), be16(&bytes, usize::MAX)), (None, None));
-        assert_eq!((be32(&bytes, 0), be64(&bytes, usize::MAX - 7)), (None, None));
+        let bytes = [1, 2, 3, 4, 5];
+        assert_eq!(be32(&bytes, 1), Some(0x0203_0405));
+        assert_eq!((be32(&bytes, 2), be32(&bytes, usize::MAX)), (None, None));
+        assert_eq!((be64(&bytes, 0), be64(&bytes, usize::MAX - 7)), (None, None));
     }
 }

@@ -3,12 +3,15 @@
 
 use std::ops::Range;
 
-use crate::fields::{be16, be64, Fields, PLACE};
+use crate::fields::{be64, Fields, PLACE};
+use crate::width::Width;
 
 #[derive(Clone, Copy)]
 pub struct Layout {
     pub version: u32,
     pub bits: u32,
+    /// Of the stored counts.
+    pub width: Width,
     pub size: u64,
     pub l1_size: usize,
     l1_at: usize,
@@ -25,6 +28,7 @@ impl Layout {
         Some(Layout {
             version: fields.version,
             bits: fields.cluster_bits,
+            width: fields.width()?,
             size: fields.size,
             l1_size: fields.l1_size as usize,
             l1_at: usize::try_from(fields.l1_at).ok()?,
@@ -65,23 +69,40 @@ impl Layout {
         (at != 0 && at + self.cluster() <= image.len()).then(|| at..at + self.cluster())
     }
 
-    /// The place of a cluster's stored count.
-    pub fn count_at(&self, image: &[u8], cluster: usize) -> Option<usize> {
-        let per_block = self.cluster() / 2;
+    /// Counts in a refcount block.
+    pub fn per_block(&self) -> usize {
+        self.width.counts_in(self.cluster())
+    }
+
+    /// The place of the refcount block with a cluster's count, and the count's
+    /// index in it.
+    fn block_of(&self, image: &[u8], cluster: usize) -> Option<(usize, usize)> {
+        let per_block = self.per_block();
         let block = be64(image, self.table_at + 8 * (cluster / per_block))?;
-        Some(block as usize + 2 * (cluster % per_block))
+        Some((block as usize, cluster % per_block))
     }
 
-    pub fn count(&self, image: &[u8], cluster: usize) -> Option<u16> {
-        be16(image, self.count_at(image, cluster)?)
+    /// The bytes in which a cluster's stored count stands. Counts of fewer than
+    /// eight bits share theirs with others.
+    pub fn count_at(&self, image: &[u8], cluster: usize) -> Option<Range<usize>> {
+        let (block, index) = self.block_of(image, cluster)?;
+        let span = self.width.span(index);
+        Some(block + span.start..block + span.end)
     }
 
-    /// Where the counts of the image's clusters stand, block by block.
+    pub fn count(&self, image: &[u8], cluster: usize) -> Option<u64> {
+        let (block, index) = self.block_of(image, cluster)?;
+        self.width.count(image.get(block..)?, index)
+    }
+
+    /// Where the counts of the image's clusters stand, block by block. The last
+    /// byte may also have counts past the image's end.
     pub fn stored_counts<'a>(&'a self, image: &'a [u8]) -> impl Iterator<Item = Range<usize>> + 'a {
-        let per_block = self.cluster() / 2;
+        let per_block = self.per_block();
         (0..self.clusters).step_by(per_block).filter_map(move |first| {
-            let at = self.count_at(image, first)?;
-            Some(at..at + 2 * per_block.min(self.clusters - first))
+            let (block, _) = self.block_of(image, first)?;
+            let counts = per_block.min(self.clusters - first);
+            Some(block..block + self.width.bytes_of(counts))
         })
     }
 
@@ -92,6 +113,6 @@ impl Layout {
 
     /// Clusters that the refcount blocks have counts for.
     pub fn covered(&self) -> usize {
-        self.clusters.next_multiple_of(self.cluster() / 2)
+        self.clusters.next_multiple_of(self.per_block())
     }
 }

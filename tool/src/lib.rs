@@ -33,3 +33,4 @@ pub mod report;
 pub mod runs;
 pub mod sentences;
 pub mod spot;
+pub mod width;

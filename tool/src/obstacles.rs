@@ -183,16 +183,18 @@ impl Probe<'_> {
     }
 
     fn mend_features(&mut self, fields: &Fields) {
-        // Tables of counts of another width are of another kind.
-        if fields.order != 4 && self.reach == Reach::Tables {
-            self.reach = Reach::Sizes;
-        }
         self.put(8, &[0; 8]);
         self.put(32, &[0; 4]);
         self.put(60, &[0; 4]);
         if fields.version == 3 {
-            self.put(96, &4u32.to_be_bytes());
             self.put(100, &HEADER_LENGTH.to_be_bytes());
+        }
+        // Which blocks there should be is not known without the width.
+        if fields.width().is_none() {
+            self.put(96, &4u32.to_be_bytes());
+            if self.reach == Reach::Tables {
+                self.reach = Reach::Sizes;
+            }
         }
     }
 

@@ -7,6 +7,9 @@
 //! power cut leaves the units up to the last cut, and of the next kind:
 //! - the autoclear bits, one count or one entry: stored or not, since a sector
 //!   is stored whole or not at all, and none ever lies over a sector's end;
+//!   where counts share a byte, it comes with the others as they stand then:
+//!   those that the list set before are in the file, each by its own flush, and
+//!   the rest is as on entry, so that it is what just these units leave;
 //! - bytes of a fill: any of them, since a drive has its own order for sectors.
 //!   A fill goes to a cluster that nothing refers to or that has the zero mark,
 //!   where no read sees it; or it is data in place, where each byte is old or

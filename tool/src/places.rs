@@ -34,7 +34,7 @@ impl Way {
 /// For a guest cluster, in an image that is sound or leaks: the autoclear bits,
 /// its L1 entry, its L2 table, its host cluster, and the counts of the latter
 /// two, each as named by the ways before and after the call. Each range lies in
-/// one cluster, and no two overlap.
+/// one cluster, and no two overlap: counts that share a byte are one range.
 pub fn touched(layout: &Layout, image: &[u8], guest: u64, ways: [Way; 2]) -> Vec<Range<usize>> {
     let l1_entry_at = layout.l1_entry_at(guest / layout.per_table());
     let mut ranges = vec![AUTOCLEAR, l1_entry_at..l1_entry_at + 8];
@@ -45,9 +45,9 @@ pub fn touched(layout: &Layout, image: &[u8], guest: u64, ways: [Way; 2]) -> Vec
                 continue;
             }
             // No call stores to the refcount table.
-            if let Some(at) = layout.count_at(image, cluster.start >> layout.bits) {
-                ranges.push(at..at + 2);
-            }
+            let count = layout.count_at(image, cluster.start >> layout.bits);
+            let count = count.filter(|bytes| !ranges.contains(bytes));
+            ranges.extend(count);
             ranges.push(cluster);
         }
     }

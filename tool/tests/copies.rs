@@ -44,7 +44,7 @@ fn set_l2(image: &mut [u8], index: usize, entry: u64) {
 fn what_the_new_one_lacks() {
     let cases: [(&str, bool, Change); 7] = [
         ("(5)", true, &|_| ()),
-        ("(6)", false, &|image| image[99] = 3),
+        ("(6)", false, &|image| image[15] = 1),
         ("(7)", false, &|image| image[79] = 1),
         ("(9)", false, &|image| image.resize((1 << 23) + 512, 0)),
         ("(10)", false, &|image| image[518] = 5),
@@ -154,7 +154,7 @@ fn whole_sectors_first() {
         assert!(!text.contains("The new one lacks"), "{text}");
         text
     };
-    let copy = with("sectors-first", &|image| (image[99], image[31], image[39]) = (3, 1, 3));
+    let copy = with("sectors-first", &|image| (image[103], image[31], image[39]) = (120, 1, 3));
     let text = first(&copy);
     assert!(text.contains("refused (6)") && text.contains("refused (18)"), "{text}");
     assert!(text.contains("The command that (6) begins with takes this away."), "{text}");

@@ -160,7 +160,7 @@ fn lists_by_counting(image: &[u8], layout: &Layout, round: usize) {
     };
     for (cluster, &figure) in scratch.iter().enumerate() {
         let stored = layout.count(image, cluster).unwrap();
-        let (stored, figure) = (i32::from(stored), i32::from(figure));
+        let figure = u64::from(figure);
         assert_eq!(listed(&damage.shared, cluster), figure == 2, "{round}");
         assert_eq!(listed(&damage.short, cluster), stored < figure, "{round}");
         assert_eq!(listed(&damage.leaked, cluster), stored > figure, "{round}");

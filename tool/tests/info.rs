@@ -40,7 +40,7 @@ fn numbers(copy: &Copy) -> Vec<u32> {
 #[test]
 fn all_obstacles() {
     type Case<'a> = (&'a [u32], &'a dyn Fn(&mut Vec<u8>));
-    let cases: [Case; 22] = [
+    let cases: [Case; 24] = [
         (&[], &|_| ()),
         (&[1], &|image| image.truncate(511)),
         (&[2], &|image| image[0] = 0),
@@ -55,9 +55,11 @@ fn all_obstacles() {
         }),
         (&[6, 7], &|image| (image[63], image[79]) = (1, 8)),
         (&[6, 7, 10], &|image| (image[103], image[79], image[518]) = (112, 2, 5)),
-        // Counts of another width: the tables are of another kind.
-        (&[6], &|image| (image[99], image[518]) = (3, 5)),
-        (&[6, 8], &|image| (image[99], image[24], image[518]) = (3, 1, 5)),
+        // The width of the counts is not known, nor which blocks there should be.
+        (&[6], &|image| (image[99], image[518]) = (7, 5)),
+        (&[6, 8], &|image| (image[99], image[24], image[518]) = (7, 1, 5)),
+        (&[10], &|image| (image[99], image[518]) = (3, 5)),
+        (&[6, 10], &|image| (image[99], image[63], image[518]) = (6, 1, 5)),
         (&[7, 10], &|image| (image[79], image[518]) = (1, 5)),
         (&[8], &|image| image[24] = 1),
         (&[8, 18], &|image| (image[24], image[31]) = (1, 1)),
@@ -153,8 +155,8 @@ fn what_the_header_says() {
         "encryption method: 2\n",
         "snapshots: 3\n",
         "refused (6): the image has a backing file, \"b.raw\"; the disk is encrypted (LUKS); the \
-         image has 3 internal snapshot(s); its counts have 1 bits (refcount_order 0); header_length \
-         is 112 as qemu 5.1 and later make it, and only 104 is accepted\n",
+         image has 3 internal snapshot(s); header_length is 112 as qemu 5.1 and later make it, and \
+         only 104 is accepted\n",
     ] {
         assert!(text.contains(line), "{line}: {text}");
     }

@@ -7,6 +7,7 @@ mod common;
 use std::fs;
 
 use common::drive::{put, sectors, torn, usable, Drive, Random};
+use common::made::{get_count, largest, made_at, put_count, Made};
 use common::{bench_image, images};
 use qcow2_core::{check, read, translate, Found, Outcome, Verdict};
 use qstore::call::Call;
@@ -104,33 +105,100 @@ fn a_cut_anywhere_leaves_a_promised_image() {
     ];
     let mut random = Random(1);
     for name in names {
-        let mut image = fs::read(images().join(name)).unwrap();
-        let layout = Layout::of(&image).unwrap();
-        // Zero marks first: the clusters below some hold old bytes.
-        let offsets = (0..layout.size).step_by(layout.cluster());
-        let zeros: Vec<u64> = offsets.filter(|&at| translate(&image, at) == Found::Zeros).collect();
-        for offset in zeros {
-            set_bits(&mut image, &layout, &mut random);
-            let data = vec![7; 1 + random.below(300)];
-            let call = Call::Write { offset: offset + 100, data: &data };
-            if call.run(&mut image.clone(), 0) != Outcome::Refused(14) {
-                image = follow(&image, call, &mut random);
+        series(fs::read(images().join(name)).unwrap(), 24, &mut random);
+    }
+}
+
+/// The same at every width of the counts. Counts past the image's end, which
+/// may share a byte with others, are none of the store's business.
+#[test]
+fn a_cut_anywhere_at_every_width() {
+    let mut random = Random(2);
+    for order in 0..=6 {
+        for (bits, clusters, size) in [(9, 45, 65_536), (9, 141, 1 << 17), (12, 21, 1 << 16)] {
+            let Made { mut image, block_at, .. } = made_at(order, 3, bits, clusters, size);
+            let all = clusters.next_multiple_of(8);
+            let past = |image: &[u8]| -> Vec<u64> {
+                (clusters..all).map(|at| get_count(&image[block_at..], order, at)).collect()
+            };
+            for cluster in clusters..all {
+                put_count(&mut image[block_at..], order, cluster, random.below(2) as u64);
             }
-        }
-        for _ in 0..24 {
-            let cluster = random.below(layout.guest_clusters() as usize) as u64;
-            set_bits(&mut image, &layout, &mut random);
-            image = follow(&image, Call::Discard { cluster }, &mut random);
-            set_bits(&mut image, &layout, &mut random);
-            let offset = random.below(layout.size as usize);
-            let room =
-                (layout.cluster() - offset % layout.cluster()).min(layout.size as usize - offset);
-            let data: Vec<u8> = (0..1 + random.below(room)).map(|k| (k % 255) as u8 + 1).collect();
-            let call = Call::Write { offset: offset as u64, data: &data };
-            if call.run(&mut image.clone(), 0) != Outcome::Refused(14) {
-                image = follow(&image, call, &mut random);
+            // Some clusters leak.
+            for cluster in [clusters - 1, clusters - 3, clusters - 8] {
+                put_count(&mut image[block_at..], order, cluster, largest(order));
             }
+            let before = past(&image);
+            let image = series(image, 16, &mut random);
+            assert_eq!(past(&image), before);
         }
+    }
+}
+
+/// Writes to where zero marks are, then discards and writes in turn.
+fn series(mut image: Vec<u8>, turns: usize, random: &mut Random) -> Vec<u8> {
+    let layout = Layout::of(&image).unwrap();
+    // Zero marks first: the clusters below some hold old bytes.
+    let offsets = (0..layout.size).step_by(layout.cluster());
+    let zeros: Vec<u64> = offsets.filter(|&at| translate(&image, at) == Found::Zeros).collect();
+    for offset in zeros {
+        set_bits(&mut image, &layout, random);
+        let data = vec![7; 1 + random.below(300)];
+        image = unless_full(image, Call::Write { offset: offset + 100, data: &data }, random);
+    }
+    for _ in 0..turns {
+        let cluster = random.below(layout.guest_clusters() as usize) as u64;
+        set_bits(&mut image, &layout, random);
+        image = follow(&image, Call::Discard { cluster }, random);
+        set_bits(&mut image, &layout, random);
+        let offset = random.below(layout.size as usize);
+        let room =
+            (layout.cluster() - offset % layout.cluster()).min(layout.size as usize - offset);
+        let data: Vec<u8> = (0..1 + random.below(room)).map(|k| (k % 255) as u8 + 1).collect();
+        image = unless_full(image, Call::Write { offset: offset as u64, data: &data }, random);
+    }
+    image
+}
+
+fn unless_full(image: Vec<u8>, call: Call, random: &mut Random) -> Vec<u8> {
+    match call.run(&mut image.clone(), 0) {
+        Outcome::Refused(14) => image,
+        _ => follow(&image, call, random),
+    }
+}
+
+/// The two counts of a list that share a byte: the first is flushed before the
+/// second, and is kept by it.
+#[test]
+fn counts_of_one_byte_are_flushed_in_turn() {
+    // For 1, 2 and 4 bits clusters 4 and 5 share a byte, and for 1 and 2 bits
+    // with those before.
+    let bytes: [[(usize, u8); 2]; 7] = [
+        [(1024, 0b0001_1111), (1024, 0b0011_1111)],
+        [(1025, 0b0000_0001), (1025, 0b0000_0101)],
+        [(1026, 0x01), (1026, 0x11)],
+        [(1028, 1), (1029, 1)],
+        [(1033, 1), (1035, 1)],
+        [(1043, 1), (1047, 1)],
+        [(1063, 1), (1071, 1)],
+    ];
+    for (order, counts) in (0..).zip(bytes) {
+        let image = made_at(order, 3, 9, 16, 65_536).image;
+        let mut ordered = usable(Drive::with(&image));
+        let call = Call::Write { offset: 33_285, data: b"h" };
+        assert_eq!(ordered.call(&call, u64::MAX).unwrap(), Outcome::Finished(1028));
+        let epochs = ordered.into_disk().epochs;
+        let stores: Vec<Vec<(usize, u8)>> = epochs[1..4]
+            .iter()
+            .map(|stores| stores.iter().map(|(at, bytes)| (*at, bytes[0])).collect())
+            .collect();
+        assert_eq!(stores, [vec![counts[0]], vec![counts[1]], vec![(2565, b'h')]]);
+        assert_eq!(epochs.len(), 6);
+        let mut state = image;
+        put(&mut state, &sectors(&epochs[1]));
+        assert_eq!(verdict(&state), Verdict::Leaks(1));
+        put(&mut state, &sectors(&epochs[2]));
+        assert_eq!(verdict(&state), Verdict::Leaks(2));
     }
 }
 
@@ -157,8 +225,8 @@ fn kinds_of_units_are_flushed_in_order() {
 
 #[test]
 fn a_drive_that_fails_leaves_the_first_units() {
-    for left in 0..12 {
-        let mut image = bench_image();
+    for (left, order) in (0..12).flat_map(|left| (0..=6).map(move |order| (left, order))) {
+        let mut image = made_at(order, 3, 9, 16, 65_536).image;
         image[95] = 1;
         let drive = Drive { left: Some(left), ..Drive::with(&image) };
         let mut ordered = Ordered::new(drive, Layout::of(&image).unwrap(), image.clone());
@@ -180,17 +248,18 @@ fn a_drive_that_fails_leaves_the_first_units() {
 /// A trial leaves memory as the drive has it, whatever it came to.
 #[test]
 fn a_trial_stores_nothing() {
-    let image = bench_image();
     let data = [1; 512];
     let write = |guest: u64| Call::Write { offset: 512 * guest, data: &data };
-    for (guests, refused) in [(0..10, None), (0..12, Some((11, 14))), (60..70, None)] {
-        let mut ordered = usable(Drive::with(&image));
-        let calls = guests.clone().map(write);
-        let discards = guests.take(3).map(|cluster| Call::Discard { cluster });
-        let trial = ordered.trial(calls.chain(discards), |_| ()).unwrap();
-        assert_eq!(trial.err(), refused);
-        assert!(ordered.image() == image && ordered.is_in_step().unwrap());
-        assert!(ordered.into_disk().epochs.iter().all(|stores| stores.is_empty()));
+    for image in (0..=6).map(|order| made_at(order, 3, 9, 16, 65_536).image) {
+        for (guests, refused) in [(0..10, None), (0..12, Some((11, 14))), (60..70, None)] {
+            let mut ordered = usable(Drive::with(&image));
+            let calls = guests.clone().map(write);
+            let discards = guests.take(3).map(|cluster| Call::Discard { cluster });
+            let trial = ordered.trial(calls.chain(discards), |_| ()).unwrap();
+            assert_eq!(trial.err(), refused);
+            assert!(ordered.image() == image && ordered.is_in_step().unwrap());
+            assert!(ordered.into_disk().epochs.iter().all(|stores| stores.is_empty()));
+        }
     }
 }
 

@@ -9,6 +9,7 @@ use std::path::Path;
 use std::sync::atomic::{AtomicUsize, Ordering};
 
 use common::drive::{open, put, sectors, torn, usable, Drive, Random, Stores};
+use common::made::made_at;
 use common::{bench_image, images};
 use qcow2_core::{check, read, write, Outcome, Verdict};
 use qstore::call::Call;
@@ -77,8 +78,9 @@ fn a_killed_discard_then_a_repair() {
 #[test]
 fn killed_calls_then_others() {
     let mut random = Random(2);
-    for name in ["03-v3-512-data.qcow2", "09-v2-4096-data.qcow2", "10-v3-512-zero.qcow2"] {
-        let mut image = fs::read(images().join(name)).unwrap();
+    let names = ["03-v3-512-data.qcow2", "09-v2-4096-data.qcow2", "10-v3-512-zero.qcow2"];
+    let files = names.into_iter().map(|name| fs::read(images().join(name)).unwrap());
+    for mut image in files.chain((0..=6).map(filled)) {
         let layout = Layout::of(&image).unwrap();
         for turn in 0..60 {
             let mut ordered = usable(Drive::with(&image));
@@ -100,6 +102,18 @@ fn killed_calls_then_others() {
             image = drive.cache;
         }
     }
+}
+
+/// An image with counts of 2^order bits and with data in both tables.
+fn filled(order: u32) -> Vec<u8> {
+    let mut image = made_at(order, 3, 9, 150, 65_536).image;
+    for guest in [0, 1, 5, 63, 64, 70, 127] {
+        assert!(matches!(
+            write(&mut image, 512 * guest, &[7; 512], u64::MAX),
+            Outcome::Finished(_)
+        ));
+    }
+    image
 }
 
 /// A write or a discard somewhere.

@@ -5,6 +5,7 @@ mod common;
 
 use std::io;
 
+use common::made::{get_count, largest, made_at, put_count, Made};
 use qcow2_core::{check, repair, Outcome, Verdict};
 use qstore::disk::Disk;
 use qstore::layout::Layout;
@@ -42,58 +43,82 @@ impl Disk for Drive {
     }
 }
 
-/// Clusters of 1,024 bytes, 1,200 of them, three refcount blocks; every third
-/// free cluster leaks.
-fn leaking() -> (Vec<u8>, u64) {
-    let mut image = common::bench_image();
-    image.truncate(512);
-    image.resize(1200 * 1024, 0);
-    image[23] = 10;
-    image[36..40].copy_from_slice(&1u32.to_be_bytes());
-    image[40..48].copy_from_slice(&5120u64.to_be_bytes());
-    image[48..56].copy_from_slice(&1024u64.to_be_bytes());
-    for block in 0..3usize {
-        let place = 2048 + 1024 * block as u64;
-        image[1024 + 8 * block..][..8].copy_from_slice(&place.to_be_bytes());
-    }
+/// Clusters of 1,024 bytes, every third free one leaks. Those past the end have
+/// counts too, which are not looked at.
+fn leaking(order: u32, clusters: usize) -> (Vec<u8>, u64) {
+    let Made { mut image, block_at, l1_at, .. } = made_at(order, 3, 10, clusters, 65_536);
     let mut leaks = 0;
-    for cluster in 0..1200 {
-        let count = match cluster {
-            0..=5 => 1,
-            _ if cluster % 3 == 0 => cluster as u16,
-            _ => 0,
-        };
-        leaks += u64::from(cluster > 5 && count > 0);
-        image[2048 + 2 * cluster..][..2].copy_from_slice(&count.to_be_bytes());
+    for cluster in (l1_at / 1024 + 1..clusters).filter(|cluster| cluster % 3 == 0) {
+        let count = 1 + (cluster as u64).wrapping_mul(u64::MAX / 7) % largest(order);
+        put_count(&mut image[block_at..], order, cluster, count);
+        leaks += 1;
+    }
+    for cluster in clusters..clusters.next_multiple_of(8) {
+        put_count(&mut image[block_at..], order, cluster, largest(order));
     }
     (image, leaks)
 }
 
+/// An order, clusters that take five sectors of counts and more at that width,
+/// and how many sectors they take.
+fn many() -> [(u32, usize, usize); 4] {
+    [(0, 17_003, 5), (2, 5_001, 5), (4, 1200, 5), (6, 333, 6)]
+}
+
 #[test]
 fn each_flush_is_a_prefix_of_the_list() {
-    let (image, leaks) = leaking();
-    for allowance in [u64::MAX, leaks, leaks - 1, 200, 1, 0] {
-        flushes(&image, leaks, leaks, allowance);
+    for (order, clusters, sectors) in many() {
+        let (image, leaks) = leaking(order, clusters);
+        for allowance in [u64::MAX, leaks, leaks - 1, leaks / 2, 1, 0] {
+            let flushed = flushes(&image, leaks, leaks, allowance);
+            assert!(flushed.len() <= sectors);
+            assert!(flushed.len() == sectors || allowance < leaks);
+        }
+    }
+}
+
+/// A part of the counts of one byte, at every width: the others stay.
+#[test]
+fn a_cut_among_the_counts_of_a_byte() {
+    for order in 0..=6 {
+        let (image, leaks) = leaking(order, 45);
+        let Made { block_at, .. } = made_at(order, 3, 10, 45, 65_536);
+        for allowance in 0..=leaks {
+            let flushed = flushes(&image, leaks, leaks, allowance);
+            assert_eq!(flushed.len(), (allowance > 0).into());
+            let Some(state) = flushed.first() else { continue };
+            let counts = |image: &[u8]| -> Vec<u64> {
+                (0..48).map(|at| get_count(&image[block_at..], order, at)).collect()
+            };
+            let (before, after) = (counts(&image), counts(state));
+            let set = (0..48).filter(|&at| before[at] != after[at]).collect::<Vec<usize>>();
+            let leaked: Vec<usize> = (0..45).filter(|at| at % 3 == 0 && *at > 4).collect();
+            assert_eq!(set, leaked[..allowance as usize]);
+            assert!(set.iter().all(|&at| after[at] == 0));
+        }
     }
 }
 
 /// The autoclear bits are cleared first, by a flush of their own.
 #[test]
 fn the_clearing_unit_is_the_first() {
-    let (mut image, leaks) = leaking();
-    image[90] = 5;
-    for allowance in [u64::MAX, leaks + 1, leaks, 200, 2, 1, 0] {
-        let flushed = flushes(&image, leaks, leaks + 1, allowance);
-        let changed = |state: &[u8]| (0..state.len()).filter(|&at| state[at] != image[at]).count();
-        assert_eq!(flushed.is_empty(), allowance == 0);
-        assert!(flushed.first().is_none_or(|state| state[90] == 0 && changed(state) == 1));
+    for (order, clusters, _) in many() {
+        let (mut image, leaks) = leaking(order, clusters);
+        image[90] = 5;
+        for allowance in [u64::MAX, leaks + 1, leaks, 2, 1, 0] {
+            let flushed = flushes(&image, leaks, leaks + 1, allowance);
+            let changed = |state: &[u8]| state.iter().zip(&image).filter(|(a, b)| a != b).count();
+            assert_eq!(flushed.is_empty(), allowance == 0);
+            assert!(flushed.first().is_none_or(|state| state[90] == 0 && changed(state) == 1));
+        }
     }
 }
 
 /// Repairs an image with these leaks by a list of these units; the states that
 /// were flushed.
 fn flushes(image: &[u8], leaks: u64, units: u64, allowance: u64) -> Vec<Vec<u8>> {
-    assert_eq!(check(image, &mut [0; 1200]), Verdict::Leaks(leaks));
+    let mut scratch = vec![0; image.len() / 1024];
+    assert_eq!(check(image, &mut scratch), Verdict::Leaks(leaks));
     let drive = Drive { image: image.to_vec(), open: vec![], flushed: vec![] };
     let mut ordered = Ordered::new(drive, Layout::of(image).unwrap(), image.to_vec());
     let mut spent = vec![];
@@ -102,16 +127,15 @@ fn flushes(image: &[u8], leaks: u64, units: u64, allowance: u64) -> Vec<Vec<u8>>
         spent.push(done);
     });
     let mut wanted = image.to_vec();
-    assert_eq!(outcome.unwrap(), repair(&mut wanted, &mut [0; 1200], allowance));
+    assert_eq!(outcome.unwrap(), repair(&mut wanted, &mut scratch, allowance));
     assert!(ordered.is_in_step().unwrap() && ordered.image() == wanted);
     spent.dedup();
     spent.retain(|&units| units > 0);
     let flushed = ordered.into_disk().flushed;
     assert_eq!(flushed.len(), spent.len());
-    assert!(flushed.len() <= 6);
     for (state, units) in flushed.iter().zip(spent) {
         let mut prefix = image.to_vec();
-        repair(&mut prefix, &mut [0; 1200], units);
+        repair(&mut prefix, &mut scratch, units);
         assert!(*state == prefix, "after {units} units");
     }
     flushed

@@ -48,7 +48,7 @@ fn with(test: &str, change: &dyn Fn(&mut Vec<u8>)) -> Copy {
 #[test]
 fn headers() {
     type Case<'a> = (u32, &'a str, &'a dyn Fn(&mut Vec<u8>));
-    let cases: [Case; 32] = [
+    let cases: [Case; 33] = [
         (1, "511 bytes", &|image| image.truncate(511)),
         (2, "a QED image", &|image| image[..4].copy_from_slice(b"QED\0")),
         (3, "version is 4", &|image| image[7] = 4),
@@ -65,7 +65,8 @@ fn headers() {
         (6, "backing file", &|image| image[15] = 1),
         (6, "LUKS", &|image| image[35] = 2),
         (6, "3 internal snapshot(s)", &|image| image[63] = 3),
-        (6, "counts have 1 bits", &|image| image[99] = 0),
+        (6, "refcount_order is 7, and only 0 to 6 are accepted", &|image| image[99] = 7),
+        (6, "refcount_order is 16777220, and only", &|image| image[96] = 1),
         (6, "`printf h | dd of=", &|image| image[103] = 112),
         (6, "such a compression type", &|image| image[103..105].copy_from_slice(&[112, 1])),
         (7, "bit 0 (dirty", &|image| image[79] = 1),

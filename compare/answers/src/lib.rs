@@ -100,7 +100,7 @@ pub trait Calls {
     fn discard(&self, image: &mut [u8], cluster: u64, allowance: u64) -> Outcome;
     fn repair(&self, image: &mut [u8], scratch: &mut [u8], allowance: u64) -> Outcome;
     fn check(&self, image: &[u8], scratch: &mut [u8]) -> Verdict;
-    fn difference(&self, stored: u16, figure: u8) -> i32;
+    fn difference(&self, stored: u64, figure: u8) -> i32;
 }
 
 /// Implements [`Calls`] for a unit struct by the free functions of the crate
@@ -153,7 +153,7 @@ macro_rules! calls_by_functions {
             fn check(&self, image: &[u8], scratch: &mut [u8]) -> $crate::Verdict {
                 check(image, scratch)
             }
-            fn difference(&self, stored: u16, figure: u8) -> i32 {
+            fn difference(&self, stored: u64, figure: u8) -> i32 {
                 difference(stored, figure)
             }
         }

@@ -1,7 +1,7 @@
 //! The check of full images.
 
 use answers::{Calls, Verdict};
-use made::full::{self, Order, LENGTH};
+use made::full::{self, Layout, Shape, LENGTH};
 use made::image::{Kind, Made, USED};
 use made::rng::Rng;
 
@@ -9,34 +9,35 @@ use crate::bench::{timed, Bench, Buffers};
 
 /// Shorter images, for the growth.
 const LENGTHS: [usize; 2] = [LENGTH / 4, LENGTH / 2];
-const ORDERS: [(Order, &str); 2] = [(Order::Rising, "in order"), (Order::Scattered, "scattered")];
+const LAYOUTS: [(Layout, &str); 2] =
+    [(Layout::Rising, "in order"), (Layout::Scattered, "scattered")];
 const TABLES: usize = 900;
 
 pub fn run(bench: &Bench) {
     for bits in [9, 16] {
-        for (order, words) in ORDERS {
+        for (layout, words) in LAYOUTS {
             for length in LENGTHS {
-                sound(bench, length, bits, order, words);
+                sound(bench, length, bits, layout, words);
             }
             let name = format!("64 MiB, C = {}, {words}", 1 << bits);
-            let made = full::full_of(LENGTH, bits, Kind::Data, order);
+            let made = full::full_of(Shape::of(bits), Kind::Data, layout);
             sound_leaking_bad(bench, &name, made);
         }
         let name = format!("64 MiB, C = {}, in order, each entry marked: sound", 1 << bits);
-        let made = full::full_of(LENGTH, bits, Kind::ZerosWithPlace, Order::Rising);
+        let made = full::full_of(Shape::of(bits), Kind::ZerosWithPlace, Layout::Rising);
         check(bench, &name, &made, Verdict::Sound);
     }
-    for (order, words) in ORDERS {
+    for (layout, words) in LAYOUTS {
         let name = format!("C = 65536, {TABLES} L2 tables, {words}");
-        sound_leaking_bad(bench, &name, full::many_tables(16, TABLES, order));
+        sound_leaking_bad(bench, &name, full::many_tables(16, TABLES, layout));
     }
     marks(bench);
 }
 
 /// A full image of data.
-pub fn sound(bench: &Bench, length: usize, bits: u32, order: Order, words: &str) {
+pub fn sound(bench: &Bench, length: usize, bits: u32, layout: Layout, words: &str) {
     let name = format!("{} MiB, C = {}, {words}: sound", length >> 20, 1 << bits);
-    let made = full::full_of(length, bits, Kind::Data, order);
+    let made = full::full_of(Shape { length, ..Shape::of(bits) }, Kind::Data, layout);
     check(bench, &name, &made, Verdict::Sound);
 }
 
@@ -57,7 +58,7 @@ fn raise_counts(made: &mut Made) -> u64 {
     rng.shuffle(&mut clusters);
     clusters.truncate(clusters.len() / 2);
     for &cluster in &clusters {
-        made.set_count(cluster, 2 + rng.below(65_534) as u16);
+        made.set_count(cluster, 2 + rng.below(65_534));
     }
     clusters.len() as u64
 }
@@ -72,7 +73,7 @@ fn break_last(made: &mut Made) -> Verdict {
 
 /// Each of many L2 tables full of zero marks with no place.
 fn marks(bench: &Bench) {
-    let mut made = full::many_tables(16, TABLES, Order::Rising);
+    let mut made = full::many_tables(16, TABLES, Layout::Rising);
     for (_, table) in made.tables.clone() {
         for at in (table..table + made.cluster()).step_by(8) {
             if made.get64(at) == 0 {
@@ -84,7 +85,7 @@ fn marks(bench: &Bench) {
     check(bench, &name, &made, Verdict::Sound);
 }
 
-fn check(bench: &Bench, name: &str, made: &Made, expected: Verdict) {
+pub fn check(bench: &Bench, name: &str, made: &Made, expected: Verdict) {
     bench.row(name, made, 1, &|side: &dyn Calls, buffers: &mut Buffers| {
         timed(|| {
             let verdict = side.check(&buffers.image, &mut buffers.scratch);

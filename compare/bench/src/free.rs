@@ -9,7 +9,7 @@
 use std::ops::Range;
 
 use answers::{Calls, Outcome};
-use made::full::{self, LENGTH};
+use made::full::{self, Shape, LENGTH};
 use made::image::Made;
 
 use crate::bench::{timed, Bench, Buffers, ALL_UNITS};
@@ -31,7 +31,7 @@ pub fn run(bench: &Bench) {
 
 /// Only the last cluster free.
 pub fn one_wanted(bench: &Bench, length: usize, bits: u32) {
-    let (made, guest) = full::nearly_full(length, bits, 1);
+    let (made, guest) = full::nearly_full(Shape { length, ..Shape::of(bits) }, 1);
     let name = format!("{} MiB, C = {}, the last free", length >> 20, 1 << bits);
     searches(bench, &name, &made, guest, Outcome::Stopped(0));
     let undo = [entry_of(&made, guest), count_of(&made, made.spare[0])];
@@ -40,7 +40,7 @@ pub fn one_wanted(bench: &Bench, length: usize, bits: u32) {
 
 /// No L2 table, and only the last two clusters free.
 fn two_wanted(bench: &Bench, bits: u32) {
-    let (made, guest) = full::last_two_free(LENGTH, bits);
+    let (made, guest) = full::last_two_free(Shape::of(bits));
     let name = format!("64 MiB, C = {}, two wanted, the last two free", 1 << bits);
     searches(bench, &name, &made, guest, Outcome::Stopped(0));
     let l1_at = made.l1_entry(guest as usize / made.per_table());
@@ -49,14 +49,14 @@ fn two_wanted(bench: &Bench, bits: u32) {
 }
 
 fn none_free(bench: &Bench, bits: u32) {
-    let (made, guest) = full::nearly_full(LENGTH, bits, 0);
+    let (made, guest) = full::nearly_full(Shape::of(bits), 0);
     let name = format!("64 MiB, C = {}, none free (14)", 1 << bits);
     searches(bench, &name, &made, guest, Outcome::Refused(14));
 }
 
 /// Counts of 1 and 2 in turn, as in a leaking image: no bit is set in all.
 fn no_common_bit(bench: &Bench, bits: u32) {
-    let (mut made, guest) = full::nearly_full(LENGTH, bits, 1);
+    let (mut made, guest) = full::nearly_full(Shape::of(bits), 1);
     for cluster in (0..made.clusters() - 1).step_by(2) {
         made.set_count(cluster, 2);
     }
@@ -65,7 +65,7 @@ fn no_common_bit(bench: &Bench, bits: u32) {
 }
 
 /// The call that stores nothing, and its search alone.
-fn searches(bench: &Bench, name: &str, made: &Made, guest: u64, answer: Outcome) {
+pub fn searches(bench: &Bench, name: &str, made: &Made, guest: u64, answer: Outcome) {
     let bits = made.cluster_bits;
     let search = |side: &dyn Calls, buffers: &mut Buffers| {
         timed(|| (0..CALLS).for_each(|_| try_write(side, buffers, guest << bits, answer)))
@@ -124,6 +124,5 @@ fn entry_of(made: &Made, guest: u64) -> Range<usize> {
 }
 
 fn count_of(made: &Made, cluster: usize) -> Range<usize> {
-    let at = made.count_at(cluster);
-    at..at + 2
+    made.count_at(cluster)
 }

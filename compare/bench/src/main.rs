@@ -1,6 +1,6 @@
 //! Times the proved core and the plain implementation side by side and prints
 //! tables of ratios. An argument chooses one family of cases: check, free,
-//! read, map, store or long.
+//! read, map, store, long or widths.
 #![forbid(unsafe_code)]
 
 mod bench;
@@ -10,16 +10,18 @@ mod long;
 mod map;
 mod read;
 mod store;
+mod widths;
 
 use bench::Bench;
 
-const FAMILIES: [(&str, fn(&Bench)); 6] = [
+const FAMILIES: [(&str, fn(&Bench)); 7] = [
     ("check", check::run),
     ("free", free::run),
     ("read", read::run),
     ("map", map::run),
     ("store", store::run),
     ("long", long::run),
+    ("widths", widths::run),
 ];
 
 fn main() {

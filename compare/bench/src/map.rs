@@ -3,7 +3,7 @@
 use std::hint::black_box;
 
 use answers::Calls;
-use made::full::{self, Order, LENGTH};
+use made::full::{self, Layout, Shape};
 use made::image::{Kind, Made};
 
 use crate::bench::{timed, Bench, Buffers};
@@ -29,12 +29,12 @@ const CHANGES: [(&str, Change); 6] = [
 
 pub fn run(bench: &Bench) {
     for bits in [9, 16] {
-        for (order, words) in [(Order::Rising, "in order"), (Order::Scattered, "scattered")] {
+        for (layout, words) in [(Layout::Rising, "in order"), (Layout::Scattered, "scattered")] {
             let name = format!("64 MiB, C = {}, {words}", 1 << bits);
-            row(bench, &name, &full::full_of(LENGTH, bits, Kind::Data, order));
+            row(bench, &name, &full::full_of(Shape::of(bits), Kind::Data, layout));
         }
         let name = format!("64 MiB, C = {}, each entry marked", 1 << bits);
-        row(bench, &name, &full::full_of(LENGTH, bits, Kind::ZerosWithPlace, Order::Rising));
+        row(bench, &name, &full::full_of(Shape::of(bits), Kind::ZerosWithPlace, Layout::Rising));
         for (words, change) in CHANGES {
             let name = format!("64 MiB, C = {}, {words}", 1 << bits);
             row(bench, &name, &changed(bits, change));
@@ -43,18 +43,18 @@ pub fn run(bench: &Bench) {
     row(
         bench,
         "C = 65536, 900 L2 tables, scattered",
-        &full::many_tables(16, 900, Order::Scattered),
+        &full::many_tables(16, 900, Layout::Scattered),
     );
     row(
         bench,
         "C = 65536, an empty disk of 512 GiB",
-        &full::empty_of(1 << 20, 16, 1 << 23, Order::Rising),
+        &full::empty_of(Shape { length: 1 << 20, ..Shape::of(16) }, 1 << 23, Layout::Rising),
     );
 }
 
 /// A full image whose clusters lie in order, with its L2 entries changed.
 fn changed(bits: u32, change: Change) -> Made {
-    let mut made = full::full_of(LENGTH, bits, Kind::Data, Order::Rising);
+    let mut made = full::full_of(Shape::of(bits), Kind::Data, Layout::Rising);
     for i in 0..made.entries.len() {
         let at = made.entries[i];
         made.put64(at, change(i, made.get64(at)));

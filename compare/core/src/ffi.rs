@@ -55,5 +55,5 @@ extern "C" {
         first: *mut u64,
         second: *mut u64,
     ) -> u32;
-    pub fn qcow2_difference(stored: u16, figure: u8) -> i32;
+    pub fn qcow2_difference(stored: u64, figure: u8) -> i32;
 }

@@ -117,7 +117,7 @@ pub fn check(image: &[u8], scratch: &mut [u8]) -> Verdict {
 }
 
 /// A cluster's stored count less the scratch's figure, with its sign.
-pub fn difference(stored: u16, figure: u8) -> i32 {
+pub fn difference(stored: u64, figure: u8) -> i32 {
     // SAFETY: takes and gives plain numbers.
     unsafe { ffi::qcow2_difference(stored, figure) }
 }

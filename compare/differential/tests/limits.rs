@@ -5,8 +5,8 @@
 use answers::{Calls, Found, Outcome, Verdict};
 use made::breaks::{break_header, ORDER};
 use made::drive::usable;
-use made::full;
-use made::image::Made;
+use made::full::{self, Layout, Shape};
+use made::image::{Kind, Made};
 use made::longest;
 use made::pair::Pair;
 use made::real;
@@ -83,8 +83,9 @@ fn write(offset: u64, len: usize, allowance: u64) -> Request {
 #[test]
 fn full_images() {
     let mut pair = Pair::new(&Core, &Plain);
-    for cluster_bits in [9, 13, 16, 21] {
-        let made = full::full(cluster_bits);
+    for (cluster_bits, order) in [(9, 4), (9, 0), (13, 5), (16, 1), (21, 3)] {
+        let shape = Shape { order, ..Shape::of(cluster_bits) };
+        let made = full::full_of(shape, Kind::Data, Layout::Rising);
         let (cluster, clusters) = (made.cluster(), made.clusters());
         pair.load(&made.bytes);
         pair.run(&Request::Check { scratch: clusters });
@@ -102,8 +103,9 @@ fn full_images() {
 #[test]
 fn last_cluster_free() {
     let mut pair = Pair::new(&Core, &Plain);
-    for cluster_bits in [9, 16, 21] {
-        let (made, guest) = full::last_free(cluster_bits);
+    for (cluster_bits, order) in [(9, 4), (9, 2), (9, 6), (16, 0), (21, 5)] {
+        let shape = Shape { order, ..Shape::of(cluster_bits) };
+        let (made, guest) = full::nearly_full(shape, 1);
         pair.load(&made.bytes);
         let offset = guest << cluster_bits;
         for allowance in [0, 1, ALL] {
@@ -141,12 +143,17 @@ fn look(images: &mut [Made; 2], offset: u64) -> (Verdict, Found) {
     (found.0, found.1)
 }
 
+/// Cluster sizes and orders. Clusters of 2^14 bytes with counts of 2 bits have
+/// the most counts of one block in use, and with 2^21 bytes and 1 bit the fewest
+/// of those it has room for.
+const LONGEST: [(u32, u32); 4] = [(9, 4), (9, 0), (14, 1), (21, 0)];
+
 /// The greatest length, with the last two clusters allotted and freed. No copy
 /// of the images is made: they take little memory.
 #[test]
 fn longest_images() {
-    for cluster_bits in [9, 15, 21] {
-        let images = &mut [(); 2].map(|()| longest::last_two_free(cluster_bits));
+    for (cluster_bits, order) in LONGEST {
+        let images = &mut [(); 2].map(|()| longest::last_two_free(cluster_bits, order));
         let (clusters, size) = (images[0].clusters() as u64, images[0].size);
         let (offset, guest) = (size - 2, (size - 1) >> cluster_bits);
         let write = |side: &dyn Calls, image: &mut [u8]| side.write(image, offset, b"ab", ALL);

@@ -45,7 +45,7 @@ fn break_6(made: &mut Made, rng: &mut Rng) {
         1 => made.put32(32, 1 << rng.below(32)),
         2 => made.put32(60, 1 << rng.below(32)),
         3 => {
-            let order = rng.pick(&[0, 3, 5, 0x0400_0000]);
+            let order = rng.pick(&[7, 8, 16, 32, 0x0400_0000, 1 << 31, u32::MAX]);
             made.put32(96, order);
         }
         _ => {

@@ -2,13 +2,13 @@
 //! accepted.
 
 use crate::image::{Made, AUTOCLEAR, USED};
-use crate::plan::Plan;
+use crate::plan::{per_block, Plan};
 use crate::rng::Rng;
 
 pub type Damage = fn(&mut Made, &mut Rng);
 
 /// Every kind; the first two only make leaks or use up room.
-pub const ALL: [Damage; 15] = [
+pub const ALL: [Damage; 16] = [
     leak,
     fill_up,
     short,
@@ -24,14 +24,17 @@ pub const ALL: [Damage; 15] = [
     entries_in_block,
     table_in_block,
     random_bytes,
+    other_order,
 ];
 
-/// Raises counts, of clusters with and without a reference.
+/// Raises counts, of clusters with and without a reference, where the width
+/// lets it.
 pub fn leak(made: &mut Made, rng: &mut Rng) {
     for _ in 0..1 + rng.below(4) {
         let cluster = rng.index(made.clusters());
-        let more = rng.pick(&[1, 1, 2, 0x100, u16::MAX]);
-        made.set_count(cluster, made.count(cluster).saturating_add(more));
+        let any = rng.number() >> rng.below(64);
+        let more = rng.pick(&[1, 1, 2, 0x100, 0xFFFF, 0x1_0000, 1 << 31, 1 << 32, any, u64::MAX]);
+        made.set_count(cluster, made.count(cluster).saturating_add(more).min(made.most()));
     }
 }
 
@@ -170,6 +173,16 @@ pub fn random_bytes(made: &mut Made, rng: &mut Rng) {
         let cluster = any_cluster(made, rng) << made.cluster_bits;
         let at = cluster + rng.index(made.cluster());
         made.bytes[at] = rng.number() as u8;
+    }
+}
+
+/// The counts read in another width, where that needs as many blocks.
+pub fn other_order(made: &mut Made, rng: &mut Rng) {
+    let order = rng.below(7) as u32;
+    let blocks = made.clusters().div_ceil(per_block(made.cluster_bits, order));
+    if made.version == 3 && blocks == made.blocks.len() {
+        made.order = order;
+        made.put32(96, order);
     }
 }
 

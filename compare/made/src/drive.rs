@@ -57,8 +57,10 @@ pub fn any_image_of(plan: Plan, rng: &mut Rng) -> Made {
             break_header(&mut made, ORDER[first], rng);
         }
         6 => {
-            let at = rng.index(104);
-            made.bytes[at] = rng.number() as u8;
+            // Any byte of the header, or the last of refcount_order.
+            let (any, number) = (rng.index(104), rng.number() as u8);
+            let (at, byte) = rng.pick(&[(any, number), (any, number), (99, number % 9)]);
+            made.bytes[at] = byte;
         }
         7 if rng.once_in(8) => rng.fill(&mut made.bytes),
         _ => {

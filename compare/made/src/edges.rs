@@ -2,7 +2,7 @@
 //! refuses them with, 0 where they are accepted.
 
 use crate::image::Made;
-use crate::plan::{Plan, LONG_BITS, MAX_BITS, MAX_L1, SECTOR};
+use crate::plan::{per_block, Plan, LONG_BITS, MAX_BITS, MAX_L1, MAX_ORDER, ORDER_16, SECTOR};
 use crate::rng::Rng;
 
 /// Visits the images one by one: all of them at once take much memory.
@@ -12,11 +12,14 @@ pub fn each(mut visit: impl FnMut(&[u8], u32)) {
     l1_sizes(rng, visit);
     l1_places(rng, visit);
     refcount_tables(rng, visit);
+    (0..=MAX_ORDER).for_each(|order| blocks(order, rng, visit));
+    orders(rng, visit);
 }
 
 fn plan(cluster_bits: u32, l1_size: usize, spare: usize) -> Plan {
     let size = Plan::reach(cluster_bits, l1_size);
-    Plan { version: 3, cluster_bits, size, l1_size, spare, longer_table: 0, autoclear: 0 }
+    let order = ORDER_16;
+    Plan { version: 3, cluster_bits, order, size, l1_size, spare, longer_table: 0, autoclear: 0 }
 }
 
 fn changed(made: &Made, change: impl Fn(&mut Made)) -> Vec<u8> {
@@ -110,11 +113,28 @@ fn l1_places(rng: &mut Rng, visit: &mut impl FnMut(&[u8], u32)) {
     }
 }
 
-/// Numbers 9 and 10, for a refcount table that is just full or overfull.
+/// Numbers 9 and 10, for a refcount table that is just full or overfull. For
+/// counts of less than 16 bits such an image is long.
 fn refcount_tables(rng: &mut Rng, visit: &mut impl FnMut(&[u8], u32)) {
-    // 64 blocks of 256 counts fill one cluster of the table.
-    let (most, fixed) = (64 * 256, 1 + 1 + 1 + 64);
-    let made = plan(9, 1, most - fixed).build(rng);
+    for order in ORDER_16..=MAX_ORDER {
+        full_table(order, rng, visit);
+    }
+    // A table that takes the whole image, and one cluster more than that.
+    let made = plan(9, 1, 8).build(rng);
+    for (place, clusters, number) in [(0, made.clusters(), 10), (0, made.clusters() + 1, 9)] {
+        let image = changed(&made, |made| {
+            made.put64(48, place);
+            made.put32(56, clusters as u32);
+        });
+        visit(&image, number);
+    }
+}
+
+fn full_table(order: u32, rng: &mut Rng, visit: &mut impl FnMut(&[u8], u32)) {
+    // 64 blocks fill one cluster of the table.
+    let (most, fixed) = (64 * per_block(9, order), 1 + 1 + 1 + 64);
+    let plan = |spare: usize| Plan { order, ..plan(9, 1, spare) };
+    let made = plan(most - fixed).build(rng);
     assert_eq!((made.table_clusters, made.clusters()), (1, most));
     visit(&made.bytes, 0);
     let last = made.table_at + 8 * 63;
@@ -124,19 +144,39 @@ fn refcount_tables(rng: &mut Rng, visit: &mut impl FnMut(&[u8], u32)) {
     }
     let longer = changed(&made, |made| made.bytes.resize((most + 1) * 512, 0));
     visit(&longer, 9);
-    let made = plan(9, 1, most - fixed + 1).build(rng);
+    let made = plan(most - fixed + 1).build(rng);
     assert_eq!((made.table_clusters, made.blocks.len()), (2, 65));
     visit(&made.bytes, 0);
     visit(&changed(&made, |made| made.put32(56, 1)), 9);
     let end = made.table_at + 2 * 512 - 8;
     visit(&changed(&made, |made| made.put64(end, 1)), 10);
-    // A table that takes the whole image, and one cluster more than that.
-    let made = plan(9, 1, 8).build(rng);
-    for (place, clusters, number) in [(0, made.clusters(), 10), (0, made.clusters() + 1, 9)] {
-        let image = changed(&made, |made| {
-            made.put64(48, place);
-            made.put32(56, clusters as u32);
-        });
-        visit(&image, number);
+}
+
+/// Number 10, for the number of blocks: one that is just full, and one cluster
+/// more.
+fn blocks(order: u32, rng: &mut Rng, visit: &mut impl FnMut(&[u8], u32)) {
+    let counts = per_block(9, order);
+    let plan = |spare: usize| Plan { order, ..plan(9, 1, spare) };
+    let made = plan(counts - 4).build(rng);
+    assert_eq!((made.clusters(), made.blocks.len()), (counts, 1));
+    visit(&made.bytes, 0);
+    let second = made.table_at + 8;
+    visit(&changed(&made, |made| made.put64(second, 512)), 10);
+    visit(&changed(&made, |made| made.bytes.resize((counts + 1) * 512, 0)), 10);
+    let two = changed(&made, |made| {
+        made.bytes.resize((counts + 1) * 512, 0);
+        made.put64(second, 512);
+    });
+    visit(&two, 0);
+}
+
+/// Number 6, for refcount_order, which version 2 does not have.
+fn orders(rng: &mut Rng, visit: &mut impl FnMut(&[u8], u32)) {
+    for version in [2, 3] {
+        let made = Plan { version, ..plan(9, 1, 8) }.build(rng);
+        for order in [0, 1, 2, 3, 4, 5, 6, 7, 8, 16, 63, 64, 256, 0x0400_0000, 1 << 31, u32::MAX] {
+            let number = if version == 3 && order > MAX_ORDER { 6 } else { 0 };
+            visit(&changed(&made, |made| made.put32(96, order)), number);
+        }
     }
 }

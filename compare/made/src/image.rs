@@ -2,7 +2,9 @@
 //! are kept here beside the bytes, so that damage can still be aimed when the
 //! bytes no longer tell.
 
-use crate::plan::LONG_BITS;
+use std::ops::Range;
+
+use crate::plan::{per_block, LONG_BITS};
 use crate::rng::Rng;
 
 pub const USED: u64 = 1 << 63;
@@ -14,6 +16,8 @@ pub struct Made {
     pub bytes: Vec<u8>,
     pub version: u32,
     pub cluster_bits: u32,
+    /// A stored count has 2^order bits.
+    pub order: u32,
     pub size: u64,
     pub l1_size: usize,
     pub l1_at: usize,
@@ -57,10 +61,6 @@ impl Made {
         self.size.div_ceil(self.cluster() as u64)
     }
 
-    pub fn put16(&mut self, at: usize, value: u16) {
-        self.bytes[at..at + 2].copy_from_slice(&value.to_be_bytes());
-    }
-
     pub fn put32(&mut self, at: usize, value: u32) {
         self.bytes[at..at + 4].copy_from_slice(&value.to_be_bytes());
     }
@@ -79,19 +79,45 @@ impl Made {
         u64::from(self.version == 3 && self.get64(AUTOCLEAR) != 0)
     }
 
-    pub fn count_at(&self, cluster: usize) -> usize {
-        let per_block = self.cluster() / 2;
-        self.blocks[cluster / per_block] + 2 * (cluster % per_block)
+    /// Counts in a refcount block.
+    pub fn per_block(&self) -> usize {
+        per_block(self.cluster_bits, self.order)
     }
 
-    pub fn count(&self, cluster: usize) -> u16 {
-        let at = self.count_at(cluster);
-        u16::from_be_bytes(self.bytes[at..at + 2].try_into().unwrap())
+    /// The greatest count that can be stored.
+    pub fn most(&self) -> u64 {
+        u64::MAX >> (64 - (1 << self.order))
     }
 
-    pub fn set_count(&mut self, cluster: usize, value: u16) {
-        let at = self.count_at(cluster);
-        self.put16(at, value);
+    /// The bytes that a count is in: its own, or the one that it shares.
+    pub fn count_at(&self, cluster: usize) -> Range<usize> {
+        let bit = (cluster % self.per_block()) << self.order;
+        let at = self.blocks[cluster / self.per_block()] + bit / 8;
+        at..at + (1 << self.order.saturating_sub(3))
+    }
+
+    /// How far up in its byte a count stands; 0 from eight bits on.
+    fn shift(&self, cluster: usize) -> u32 {
+        (cluster << self.order) as u32 % 8
+    }
+
+    pub fn count(&self, cluster: usize) -> u64 {
+        let bytes = &self.bytes[self.count_at(cluster)];
+        let number = bytes.iter().fold(0, |number, &byte| number << 8 | u64::from(byte));
+        number >> self.shift(cluster) & self.most()
+    }
+
+    /// Stores a count that is not above the greatest.
+    pub fn set_count(&mut self, cluster: usize, value: u64) {
+        assert!(value <= self.most(), "{value} in 2^{} bits", self.order);
+        let (at, shift) = (self.count_at(cluster), self.shift(cluster));
+        if self.order < 3 {
+            let old = self.count(cluster);
+            self.bytes[at.start] ^= ((old ^ value) << shift) as u8;
+        } else {
+            let len = at.len();
+            self.bytes[at].copy_from_slice(&value.to_be_bytes()[8 - len..]);
+        }
     }
 
     /// The place of an L1 entry.

@@ -19,3 +19,4 @@ pub mod real_suite;
 pub mod report;
 pub mod requests;
 pub mod rng;
+pub mod widths;

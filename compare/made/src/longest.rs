@@ -2,18 +2,19 @@
 //! stored, which take no memory.
 
 use crate::image::Made;
-use crate::plan::{Plan, MAX_IMAGE, MAX_L1};
+use crate::plan::{per_block, Plan, MAX_IMAGE, MAX_L1};
 
 /// Only the last two clusters have the count 0, though nothing refers to most
 /// of the others: a leaking image. The L1 table is the longest, and the disk
 /// the longest that it reaches.
-pub fn last_two_free(cluster_bits: u32) -> Made {
+pub fn last_two_free(cluster_bits: u32, order: u32) -> Made {
     let (cluster, clusters) = (1 << cluster_bits, MAX_IMAGE >> cluster_bits);
-    let blocks = clusters.div_ceil(cluster / 2);
+    let blocks = clusters.div_ceil(per_block(cluster_bits, order));
     let fixed = 1 + (8 * MAX_L1).div_ceil(cluster) + blocks + (8 * blocks).div_ceil(cluster);
     let plan = Plan {
         version: 3,
         cluster_bits,
+        order,
         size: Plan::reach(cluster_bits, MAX_L1),
         l1_size: MAX_L1,
         spare: clusters - fixed,

@@ -8,16 +8,26 @@ pub const MAX_BITS: u32 = 21;
 /// From these cluster_bits on, images are long: random ones are rare and have
 /// few clusters.
 pub const LONG_BITS: u32 = 17;
+pub const MAX_ORDER: u32 = 6;
+/// The order of version 2.
+pub const ORDER_16: u32 = 4;
 pub const MAX_IMAGE: usize = 1 << 30;
 pub const MAX_L1: usize = 65_536;
 const MAX_DISK: u64 = 1 << 40;
 /// Disks are whole numbers of sectors.
 pub const SECTOR: u64 = 512;
 
+/// Counts of 2^order bits in a refcount block.
+pub fn per_block(cluster_bits: u32, order: u32) -> usize {
+    1 << (cluster_bits + 3 - order)
+}
+
 #[derive(Clone, Copy, Debug)]
 pub struct Plan {
     pub version: u32,
     pub cluster_bits: u32,
+    /// Bytes 96 to 99, refcount_order, which version 2 has no field for.
+    pub order: u32,
     pub size: u64,
     pub l1_size: usize,
     /// Clusters beyond header, refcount table, blocks and L1 table.
@@ -57,14 +67,25 @@ impl Plan {
             (15..LONG_BITS, _) => rng.index(14),
             _ => rng.index(5),
         };
+        let version = rng.pick(&[2, 3, 3, 3]);
         Plan {
-            version: rng.pick(&[2, 3, 3]),
+            version,
             cluster_bits,
+            order: random_order(version, rng),
             size: random_size(rng, 1 << cluster_bits, max),
             l1_size,
             spare,
             longer_table: if rng.once_in(4) { 1 + rng.index(3) } else { 0 },
             autoclear: random_autoclear(rng),
+        }
+    }
+
+    /// The order that holds.
+    fn counts(&self) -> u32 {
+        if self.version == 2 {
+            ORDER_16
+        } else {
+            self.order
         }
     }
 
@@ -75,7 +96,7 @@ impl Plan {
         loop {
             let table = (8 * blocks).div_ceil(cluster) + self.longer_table;
             let clusters = 1 + table + self.l1_clusters() + blocks + self.spare;
-            let needed = clusters.div_ceil(cluster / 2);
+            let needed = clusters.div_ceil(per_block(self.cluster_bits, self.counts()));
             if needed <= blocks {
                 assert!(clusters * cluster <= MAX_IMAGE && needed == blocks);
                 return (clusters, table, blocks);
@@ -137,6 +158,7 @@ impl Plan {
             bytes,
             version: self.version,
             cluster_bits: self.cluster_bits,
+            order: self.counts(),
             size: self.size,
             l1_size: self.l1_size,
             l1_at: l1 << self.cluster_bits,
@@ -149,6 +171,7 @@ impl Plan {
         };
         write_header(&mut made);
         made.put64(AUTOCLEAR, self.autoclear);
+        made.put32(96, self.order);
         write_tables(&mut made);
         made
     }
@@ -160,6 +183,15 @@ fn random_bits(rng: &mut Rng) -> u32 {
         return rng.pick(&[17, 17, 17, 17, 18, 18, 18, 19, 19, 20, 21]);
     }
     rng.pick(&[9, 9, 9, 9, 9, 9, 9, 10, 10, 10, 11, 12, 13, 14, 15, 16])
+}
+
+/// Each width; in version 2 any number.
+fn random_order(version: u32, rng: &mut Rng) -> u32 {
+    let (order, any) = (rng.below(7) as u32, rng.number() as u32);
+    match version {
+        2 => rng.pick(&[order, ORDER_16, 7, any]),
+        _ => order,
+    }
 }
 
 /// None, one at either end, one of all, or any.
@@ -211,7 +243,7 @@ fn write_header(made: &mut Made) {
     made.put32(60, 0);
     if made.version == 3 {
         made.put64(72, 0);
-        made.put32(96, 4);
+        made.put32(96, made.order);
         made.put32(100, 104);
     }
 }
@@ -236,10 +268,16 @@ fn write_tables(made: &mut Made) {
 
 /// The paper's bench image.
 pub fn bench_image() -> Made {
+    bench_image_of(ORDER_16)
+}
+
+/// The same with counts of 2^order bits.
+pub fn bench_image_of(order: u32) -> Made {
     let mut made = Made {
         bytes: vec![0; 8192],
         version: 3,
         cluster_bits: 9,
+        order,
         size: 65_536,
         l1_size: 2,
         l1_at: 3 * 512,

@@ -36,9 +36,15 @@ pub fn report(calls: &dyn Calls, image: &[u8]) -> String {
 }
 
 fn stored_count(image: &[u8], cluster: usize, index: usize) -> u64 {
+    let order = if number(image, 4, 4) == 2 { 4 } else { number(image, 96, 4) };
+    let (width, per_block) = (1usize << order, (8 * cluster) >> order);
     let table = number(image, 48, 8) as usize;
-    let block = number(image, table + 8 * (index / (cluster / 2)), 8) as usize;
-    number(image, block + 2 * (index % (cluster / 2)), 2)
+    let block = number(image, table + 8 * (index / per_block), 8) as usize;
+    let bit = width * (index % per_block);
+    match width {
+        8.. => number(image, block + bit / 8, width / 8),
+        _ => number(image, block + bit / 8, 1) >> (bit % 8) & ((1 << width) - 1),
+    }
 }
 
 fn spell(verdict: Verdict) -> String {

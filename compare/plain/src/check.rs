@@ -3,6 +3,7 @@
 
 use answers::{Outcome, Verdict};
 
+use crate::compare::{compare, store_references};
 use crate::entries::Rules;
 use crate::header::{be64, zero, Header};
 use crate::list::List;
@@ -37,8 +38,8 @@ pub fn repair(image: &mut [u8], scratch: &mut [u8], allowance: u64) -> Outcome {
 }
 
 /// A cluster's stored count less the scratch's figure, with its sign.
-pub fn difference(stored: u16, figure: u8) -> i32 {
-    i32::from(stored) - i32::from(figure)
+pub fn difference(stored: u64, figure: u8) -> i32 {
+    (i128::from(stored) - i128::from(figure)).min(65_535) as i32
 }
 
 fn examine(image: &[u8], scratch: &mut [u8]) -> Result<(Header, Verdict), u32> {
@@ -139,56 +140,4 @@ fn refer(figure: &mut u8) -> u8 {
     let before = *figure;
     *figure = 1 + u8::from(before != 0);
     before
-}
-
-/// The verdict where no entry is bad and no figure above 1.
-fn compare(header: &Header, image: &[u8], figures: &[u8]) -> Verdict {
-    let mut leaks = 0;
-    for (index, figures) in figures.chunks(header.per_block()).enumerate() {
-        let at = header.block_at(image, index);
-        let counts = image[at..at + header.cluster()].as_chunks().0;
-        // 16 bits are enough: no block has more than 2^14 counts of clusters,
-        // C / 2 or N, whichever is less.
-        let (mut above, mut below) = (0u16, 0u16);
-        for (count, &figure) in counts.iter().zip(figures) {
-            let count = u16::from_be_bytes(*count);
-            above += u16::from(count > u16::from(figure));
-            below += u16::from(count < u16::from(figure));
-        }
-        if below != 0 {
-            let short =
-                |(count, &figure): (&[u8; 2], &u8)| u16::from_be_bytes(*count) < u16::from(figure);
-            let found = counts.iter().zip(figures).position(short);
-            let first = index * header.per_block();
-            return Verdict::Short((first + found.expect("counted above")) as u64);
-        }
-        leaks += u64::from(above);
-    }
-    if leaks == 0 {
-        Verdict::Sound
-    } else {
-        Verdict::Leaks(leaks)
-    }
-}
-
-/// Sets the first `units` counts that differ from the figures to them. The
-/// image is not damaged: no block lies on another structure, so no store
-/// changes what is read later on.
-fn store_references(header: &Header, image: &mut [u8], figures: &[u8], units: u64) {
-    let figures = &figures[..header.clusters];
-    let mut left = units;
-    for (index, figures) in figures.chunks(header.per_block()).enumerate() {
-        let at = header.block_at(image, index);
-        let counts = image[at..at + header.cluster()].as_chunks_mut().0;
-        for (count, &figure) in counts.iter_mut().zip(figures) {
-            let wanted = u16::from(figure).to_be_bytes();
-            if *count != wanted {
-                if left == 0 {
-                    return;
-                }
-                *count = wanted;
-                left -= 1;
-            }
-        }
-    }
 }

@@ -1,11 +1,17 @@
-//! The stored counts: two bytes for each cluster, in refcount blocks.
+//! The stored counts in the refcount blocks, for each cluster 2^order bits.
 
+use crate::cell::Cell;
 use crate::header::{be64, Header};
+use crate::width::{for_width, ForWidth, Width};
 
 impl Header {
     /// Counts in one refcount block.
     pub fn per_block(&self) -> usize {
-        self.cluster() / 2
+        1 << self.per_block_bits()
+    }
+
+    fn per_block_bits(&self) -> u32 {
+        self.cluster_bits + 3 - self.order
     }
 
     /// The place of refcount block `index`.
@@ -14,45 +20,42 @@ impl Header {
     }
 
     /// The place of a cluster's stored count.
-    pub fn count_at(&self, image: &[u8], cluster: usize) -> usize {
-        let index = cluster >> (self.cluster_bits - 1);
-        self.block_at(image, index) + 2 * (cluster & (self.per_block() - 1))
+    pub fn cell(&self, image: &[u8], cluster: usize) -> Cell {
+        let block = self.block_at(image, cluster >> self.per_block_bits());
+        Cell::of(self.order, block, cluster & (self.per_block() - 1))
     }
 
-    /// The lowest cluster from `start` on with stored count 0. Each block is
-    /// looked up once.
+    /// The lowest cluster from `start` on with stored count 0.
     pub fn next_free(&self, image: &[u8], start: usize) -> Option<usize> {
-        let (bits, per_block) = (self.cluster_bits, self.per_block());
-        let table = image[self.table_at..][..8 * self.blocks].as_chunks().0;
-        let first = start >> (bits - 1);
+        for_width(self.order, NextFree { header: self, image, start })
+    }
+}
+
+struct NextFree<'a> {
+    header: &'a Header,
+    image: &'a [u8],
+    start: usize,
+}
+
+impl ForWidth for NextFree<'_> {
+    type Answer = Option<usize>;
+
+    /// Each block is looked up once.
+    fn with<W: Width>(self) -> Option<usize> {
+        let NextFree { header, image, start } = self;
+        let per_block = header.per_block();
+        let table = image[header.table_at..][..8 * header.blocks].as_chunks().0;
+        let first = start >> header.per_block_bits();
         let mut base = first * per_block;
         let mut skip = start - base;
         for &entry in table.get(first..)? {
-            let block = &image[u64::from_be_bytes(entry) as usize..];
-            let counts = &block[..2 * per_block.min(self.clusters - base)];
-            if let Some(found) = first_zero(counts.get(2 * skip..).unwrap_or(&[])) {
-                return Some(base + skip + found);
+            let block = &image[u64::from_be_bytes(entry) as usize..][..header.cluster()];
+            let counts = per_block.min(header.clusters - base);
+            if let Some(found) = W::first_zero(block, skip, counts) {
+                return Some(base + found);
             }
             (base, skip) = (base + per_block, 0);
         }
         None
     }
-}
-
-/// Counts that are tested at once: the compiler compares eight by eight, and
-/// needs no loop for so few.
-const GROUP: usize = 256;
-
-/// Index of the first count that is 0.
-fn first_zero(counts: &[u8]) -> Option<usize> {
-    let zero = |count: &[u8; 2]| *count == [0, 0];
-    let (groups, rest) = counts.as_chunks::<{ 2 * GROUP }>();
-    for (index, group) in groups.iter().enumerate() {
-        let counts = group.as_chunks().0;
-        if counts.iter().fold(false, |any, count| any | zero(count)) {
-            return counts.iter().position(zero).map(|found| GROUP * index + found);
-        }
-    }
-    let found = rest.as_chunks().0.iter().position(zero)?;
-    Some(GROUP * groups.len() + found)
 }

@@ -9,13 +9,12 @@ const BITS: RangeInclusive<u32> = 9..=21;
 const MAX_IMAGE: usize = 1 << 30;
 const MAX_DISK: u64 = 1 << 40;
 const MAX_L1: u64 = 65_536;
+const MAX_ORDER: u32 = 6;
+/// Version 2 has no such field.
+const VERSION_2_ORDER: u32 = 4;
 const SECTOR: u64 = 512;
 /// The place of autoclear_features.
 pub(crate) const AUTOCLEAR: usize = 88;
-
-pub(crate) fn be16(image: &[u8], at: usize) -> u16 {
-    u16::from_be_bytes(image[at..at + 2].try_into().unwrap())
-}
 
 pub(crate) fn be32(image: &[u8], at: usize) -> u32 {
     u32::from_be_bytes(image[at..at + 4].try_into().unwrap())
@@ -29,6 +28,8 @@ pub(crate) fn be64(image: &[u8], at: usize) -> u64 {
 pub(crate) struct Header {
     pub version: u32,
     pub cluster_bits: u32,
+    /// A stored count has 2^order bits.
+    pub order: u32,
     pub size: u64,
     /// Version 3; 0 in version 2, which has no such field.
     pub autoclear: u64,
@@ -46,7 +47,7 @@ impl Header {
     /// The accepted header, or the first of its numbers that applies.
     pub fn judge(image: &[u8]) -> Result<Header, u32> {
         let (version, cluster_bits) = shape(image)?;
-        features(image, version)?;
+        let order = features(image, version)?;
         let size = be64(image, 24);
         let l1_size = u64::from(be32(image, 36));
         // What the L1 table reaches is formed within its limit alone: 2^55 at
@@ -58,7 +59,7 @@ impl Header {
         if !size.is_multiple_of(SECTOR) {
             return Err(18);
         }
-        let header = tables(image, version, cluster_bits, size, l1_size)?;
+        let header = tables(image, (version, cluster_bits, order), size, l1_size)?;
         if header.blocks_are_good(image) {
             Ok(header)
         } else {
@@ -118,27 +119,28 @@ fn shape(image: &[u8]) -> Result<(u32, u32), u32> {
     Ok((version, cluster_bits))
 }
 
-/// Numbers 6 and 7.
-fn features(image: &[u8], version: u32) -> Result<(), u32> {
+/// Numbers 6 and 7: refcount_order.
+fn features(image: &[u8], version: u32) -> Result<u32, u32> {
     if be64(image, 8) != 0 || be32(image, 32) != 0 || be32(image, 60) != 0 {
         return Err(6);
     }
-    if version == 3 {
-        if be32(image, 96) != 4 || be32(image, 100) != 104 {
-            return Err(6);
-        }
-        if be64(image, 72) != 0 {
-            return Err(7);
-        }
+    if version == 2 {
+        return Ok(VERSION_2_ORDER);
     }
-    Ok(())
+    let order = be32(image, 96);
+    if order > MAX_ORDER || be32(image, 100) != 104 {
+        return Err(6);
+    }
+    if be64(image, 72) != 0 {
+        return Err(7);
+    }
+    Ok(order)
 }
 
 /// Number 9: the places of the L1 table and the refcount table.
 fn tables(
     image: &[u8],
-    version: u32,
-    cluster_bits: u32,
+    (version, cluster_bits, order): (u32, u32, u32),
     size: u64,
     l1_size: u64,
 ) -> Result<Header, u32> {
@@ -149,13 +151,14 @@ fn tables(
     let table_clusters = u64::from(be32(image, 56));
     let table_len = table_clusters << cluster_bits;
     let clusters = n >> cluster_bits;
-    let blocks = clusters.div_ceil(1 << (cluster_bits - 1));
+    let blocks = clusters.div_ceil(1 << (cluster_bits + 3 - order));
     if !fits(l1_at, 8 * l1_size) || !fits(table_at, table_len) || table_len / 8 < blocks {
         return Err(9);
     }
     Ok(Header {
         version,
         cluster_bits,
+        order,
         size,
         autoclear: if version == 3 { be64(image, AUTOCLEAR) } else { 0 },
         l1_size: l1_size as usize,

@@ -2,14 +2,20 @@
 //! as the proved one, written independently of it.
 #![forbid(unsafe_code)]
 
+mod cell;
 mod check;
+mod compare;
 mod counts;
 mod entries;
 mod header;
 mod list;
+mod narrow;
 pub mod plain_disk;
 mod reading;
 mod storing;
+mod wide;
+mod width;
+mod words;
 
 pub use answers::{Found, Outcome, Run, Verdict};
 pub use check::{check, difference, repair};

@@ -3,6 +3,7 @@
 
 use answers::Outcome;
 
+use crate::cell::Cell;
 use crate::header::{Header, AUTOCLEAR};
 
 /// One run of unit stores.
@@ -12,7 +13,7 @@ pub(crate) enum Store<'a> {
     /// `data` from byte `start` of them on.
     Fill { at: usize, len: usize, start: usize, data: &'a [u8] },
     /// One unit: a stored count.
-    Count { at: usize, value: u16 },
+    Count { cell: Cell, value: u64 },
     /// One unit: an L1 or L2 entry, or autoclear_features.
     Entry { at: usize, value: u64 },
 }
@@ -27,7 +28,7 @@ pub(crate) struct List<'a> {
 
 impl<'a> List<'a> {
     pub fn of<const K: usize>(stores: [Store<'a>; K]) -> List<'a> {
-        let mut list = List { stores: [Store::Count { at: 0, value: 0 }; MOST], len: K };
+        let mut list = List { stores: [Store::Entry { at: 0, value: 0 }; MOST], len: K };
         list.stores[..K].copy_from_slice(&stores);
         list
     }
@@ -92,9 +93,7 @@ impl Store<'_> {
         match *self {
             Store::Fill { at, start, data, .. } => fill(&mut image[at..at + units], start, data),
             _ if units == 0 => {}
-            Store::Count { at, value } => {
-                image[at..at + 2].copy_from_slice(&value.to_be_bytes());
-            }
+            Store::Count { cell, value } => cell.store(image, value),
             Store::Entry { at, value } => {
                 image[at..at + 8].copy_from_slice(&value.to_be_bytes());
             }

@@ -6,7 +6,7 @@ use std::collections::{BTreeMap, BTreeSet};
 use answers::{Calls, Outcome, Verdict};
 
 use crate::entries::Rules;
-use crate::header::{be16, be64, Header};
+use crate::header::{be64, Header};
 use crate::list::List;
 use crate::storing::{discard_list, write_list};
 
@@ -210,7 +210,7 @@ impl<'c> Series<'c> {
         }
         let header = Header::judge(image).map_err(|number| format!("refused {number}"))?;
         let differs = |cluster: usize| {
-            let count = be16(image, header.count_at(image, cluster));
+            let count = header.cell(image, cluster).load(image);
             (count == 0) != (scratch[cluster] == 0)
         };
         match (0..scratch.len()).find(|&cluster| repaired && differs(cluster)) {

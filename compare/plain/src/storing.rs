@@ -3,7 +3,7 @@
 use answers::Outcome;
 
 use crate::entries::{Mapping, Slot, USED};
-use crate::header::{be16, Header};
+use crate::header::Header;
 use crate::list::{List, Store};
 
 /// Writes `data` at `offset`, inside one guest cluster, cut after `allowance`
@@ -88,9 +88,9 @@ fn discard_stores(header: &Header, image: &[u8], cluster: u64) -> Result<List<'s
     };
     let clear = Store::Entry { at, value: 0 };
     if mapping.place != 0 {
-        let count_at = header.count_at(image, mapping.place >> header.cluster_bits);
-        let value = be16(image, count_at).checked_sub(1).ok_or(16u32)?;
-        return Ok(List::of([clear, Store::Count { at: count_at, value }]));
+        let cell = header.cell(image, mapping.place >> header.cluster_bits);
+        let value = cell.load(image).checked_sub(1).ok_or(16u32)?;
+        return Ok(List::of([clear, Store::Count { cell, value }]));
     }
     Ok(if mapping.zeros { List::of([clear]) } else { List::of([]) })
 }
@@ -99,7 +99,7 @@ impl Header {
     /// For a new cluster: the store of its count, its place and its entry.
     fn allot(&self, image: &[u8], cluster: usize) -> (Store<'static>, usize, u64) {
         let place = cluster << self.cluster_bits;
-        let count = Store::Count { at: self.count_at(image, cluster), value: 1 };
+        let count = Store::Count { cell: self.cell(image, cluster), value: 1 };
         (count, place, USED | place as u64)
     }
 }

@@ -57,8 +57,8 @@ fn refusal(image: &[u8]) -> u32 {
 
 #[test]
 fn longest_images() {
-    for cluster_bits in [9, 16, 21] {
-        let mut made = longest::last_two_free(cluster_bits);
+    for (cluster_bits, order) in [(9, 4), (9, 0), (16, 6), (21, 0)] {
+        let mut made = longest::last_two_free(cluster_bits, order);
         assert_eq!((made.bytes.len(), refusal(&made.bytes)), (1_073_741_824, 0));
         longest::lengthen(&mut made);
         assert_eq!(refusal(&made.bytes), 5);
@@ -101,6 +101,7 @@ fn partial_cluster() {
     let plan = Plan {
         version: 3,
         cluster_bits: 10,
+        order: 4,
         size: 65_024,
         l1_size: 1,
         spare: 2,

@@ -24,11 +24,25 @@ fn made_images_are_sound() {
         let mut scratch = vec![7; made.clusters() + 3];
         assert_eq!(check(&made.bytes, &mut scratch), Verdict::Sound);
         for (cluster, &figure) in scratch[..made.clusters()].iter().enumerate() {
-            assert_eq!(u16::from(figure), made.count(cluster));
+            assert_eq!(u64::from(figure), made.count(cluster));
         }
         assert_eq!(scratch[made.clusters()..], [7; 3]);
     }
     assert!(partial > IMAGES / 6, "{partial} disks end inside a cluster");
+}
+
+/// Raises some counts as far as the width lets them; of which clusters.
+fn raise(made: &mut Made, rng: &mut Rng) -> Vec<usize> {
+    let mut raised: Vec<usize> = (0..6).map(|_| rng.index(made.clusters())).collect();
+    raised.sort_unstable();
+    raised.dedup();
+    raised.retain(|&cluster| made.count(cluster) < made.most());
+    for &cluster in &raised {
+        let (count, most) = (made.count(cluster), made.most());
+        let some = rng.below((most - count).min(60_000));
+        made.set_count(cluster, rng.pick(&[count + 1 + some, count + 1, most]));
+    }
+    raised
 }
 
 #[test]
@@ -41,11 +55,9 @@ fn leaks() {
             before.put64(AUTOCLEAR, 0);
         }
         let before = before.bytes;
-        let mut raised: Vec<usize> = (0..6).map(|_| rng.index(made.clusters())).collect();
-        raised.sort_unstable();
-        raised.dedup();
-        for &cluster in &raised {
-            made.set_count(cluster, made.count(cluster) + 1 + rng.below(60_000) as u16);
+        let raised = raise(&mut made, &mut rng);
+        if raised.is_empty() {
+            continue;
         }
         let leaks = raised.len() as u64;
         assert_eq!(verdict(&made), Verdict::Leaks(leaks));

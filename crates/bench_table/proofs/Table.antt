@@ -10,10 +10,11 @@ use borrow.Author.Tests.{ltb-true}
 use Rattle.choice.specs.Pick.{all}
 use Rattle.choice.proofs.Tests.{and-true}
 use Rattle.endian.specs.Big.{be16, be32, be64, bytes16, bytes32, bytes64, entries}
+use Rattle.widths.specs.Width.{be, bytes, span, field, merge, number, stored}
 use Rattle.units.specs.Units.{apply, applyAll, fill, cluster}
 use Rattle.units.specs.Plan.{Plan, planUnits, planNumber, after}
 use Rattle.tally.specs.Tally.{run, occurrences, figures, twice}
-use Rattle.qcow2_spec.specs.Header.{version, clusterSize, clusters, diskSize, l1Size, l1At, tableAt, tableClusters, perBlock, blocks, perTable, table, blockAt, goodBlock, goodTable, unsupported, tooBig, oddSize, badTables, headerNumber, tableNumber, judge, autoclear}
+use Rattle.qcow2_spec.specs.Header.{version, clusterSize, clusters, diskSize, l1Size, l1At, tableAt, tableClusters, countOrder, width, perBlock, blocks, perTable, table, blockAt, goodBlock, goodTable, unsupported, tooBig, oddSize, badTables, headerNumber, tableNumber, judge, autoclear}
 use Rattle.qcow2_spec.specs.Entries.{place, goodPlace, goodL1, goodL2, compressed, zeroMark, newEntry}
 use Rattle.qcow2_spec.specs.Counts.{countAt, countOf, setCount, freeAt, freeFrom, free}
 use Rattle.qcow2_spec.specs.Guest.{l1EntryAt, l1Entry, entryWay, l2Way, way, entryGives, wayGives, located, translate, foundByte, guestByte, guestBytes, wayNumber, waysNumber, outside, touched, readNumber}
@@ -23,13 +24,13 @@ use Rattle.qcow2_spec.specs.References.{l1Entries, l2Entries, named, l2Refs, ta
 use Rattle.qcow2_spec.specs.Check.{l2Verdict, entryVerdict, l1Verdict, short, over, countsVerdict, verdict, repairUnits, verdictPlan, repairPlan, check}
 use Rattle.qcow2_spec.specs.Series.{Healthy, Call, AllBytes, Agrees, Holds}
 use Rattle.qcow2_spec.proofs.Series.{demand3}
-use Rattle.bench_table.specs.Bench.{header, body, benchWith, bench, marked}
-use Rattle.bench_table.specs.Table.{cost, filled, write, written, turned, stale, Stored, CutEarly, CutLate, Repaired, Next, Discarded, Full, Edges, Cleared, Runs, Starred, Headers}
+use Rattle.bench_table.specs.Bench.{header, body, benchWith, bench, marked, widthed, oneBit, twoBits, fourBits, eightBits, wideBits, widestBits}
+use Rattle.bench_table.specs.Table.{cost, filled, write, written, turned, stale, writtenTo, Stored, CutEarly, CutLate, Repaired, Next, Discarded, Full, Edges, Cleared, Runs, Widths, Starred, Headers}
 use Rattle.bench_table.proofs.Quick.{quick, quick-ok}
 
 -- what an example computes with
 unfoldable computing : Unit {0}
-unfolding be16 be32 be64 bytes16 bytes32 bytes64 entries version clusterSize clusters diskSize l1Size l1At tableAt tableClusters perBlock blocks perTable table blockAt goodBlock goodTable unsupported tooBig oddSize badTables headerNumber tableNumber judge countAt countOf freeAt freeFrom place goodPlace goodL1 goodL2 compressed zeroMark l1EntryAt l1Entry way entryWay l2Way entryGives wayGives located translate foundByte guestByte guestBytes wayNumber waysNumber outside touched readNumber sameFound goesOn runLength runRow runRows runsNumber listRuns apply applyAll setCount fill cluster newEntry autoclear clearUnits clearing judged allot writeNew writeTable writeSlot writeWay writePlan discardSlot discardWay discardPlan planUnits planNumber after run l1Entries l2Entries named l2Refs tableRefs l1Refs fixedRefs references occurrences figures twice figuresOf short over l2Verdict entryVerdict l1Verdict countsVerdict verdict free repairUnits verdictPlan repairPlan header body benchWith bench marked quick cost filled write written turned stale
+unfolding be16 be32 be64 bytes16 bytes32 bytes64 entries be bytes span field merge number stored version clusterSize clusters diskSize l1Size l1At tableAt tableClusters countOrder width perBlock blocks perTable table blockAt goodBlock goodTable unsupported tooBig oddSize badTables headerNumber tableNumber judge countAt countOf freeAt freeFrom place goodPlace goodL1 goodL2 compressed zeroMark l1EntryAt l1Entry way entryWay l2Way entryGives wayGives located translate foundByte guestByte guestBytes wayNumber waysNumber outside touched readNumber sameFound goesOn runLength runRow runRows runsNumber listRuns apply applyAll setCount fill cluster newEntry autoclear clearUnits clearing judged allot writeNew writeTable writeSlot writeWay writePlan discardSlot discardWay discardPlan planUnits planNumber after run l1Entries l2Entries named l2Refs tableRefs l1Refs fixedRefs references occurrences figures twice figuresOf short over l2Verdict entryVerdict l1Verdict countsVerdict verdict free repairUnits verdictPlan repairPlan header body benchWith bench marked widthed oneBit twoBits fourBits eightBits wideBits widestBits quick cost filled write written turned stale writtenTo
 computing = tt
 
 quick-stored : (a b c d e x y z : ℕ) → Stored quick (a ∷ b ∷ c ∷ d ∷ e ∷ []) x y z
@@ -92,6 +93,37 @@ unfolding computing
 quick-runs a b c d e x y z =
     record { none = refl; past = refl; last = refl; absent = refl; begins = refl; apart = refl; no-room = refl; marks = refl }
 
+quick-widths : (a b c d e : ℕ) → Widths quick (a ∷ b ∷ c ∷ d ∷ e ∷ [])
+unfolding computing
+quick-widths a b c d e =
+    record {
+      one-sound = refl;
+      one-units = refl;
+      one-first = refl;
+      one-both = refl;
+      one-cut = refl;
+      one-mended = refl;
+      one-whole = refl;
+      one-freed = refl;
+      two-sound = refl;
+      two-both = refl;
+      four-sound = refl;
+      four-both = refl;
+      eight-sound = refl;
+      eight-both = refl;
+      wide-sound = refl;
+      wide-both = refl;
+      wide-leak = refl;
+      widest-sound = refl;
+      widest-both = refl;
+      cut-off = refl;
+      just-below = refl;
+      order-7 = refl;
+      version-2 = refl;
+      one-block = refl;
+      two-blocks = refl;
+    }
+
 -- the starred lines, for all data bytes
 pub starred : (a b c d e x y z : ℕ) → Starred after (a ∷ b ∷ c ∷ d ∷ e ∷ []) x y z
 starred a b c d e x y z =
@@ -107,6 +139,7 @@ starred a b c d e x y z =
       edges = quick-edges a b c d e x y z;
       cleared = quick-cleared a b c d e x y z;
       runs = quick-runs a b c d e x y z;
+      widths = quick-widths a b c d e;
     })
 
 pub headers : Headers

@@ -4,10 +4,12 @@
 use Prim.Native.Nat.{ℕ}
 use mathlib.Core.Path.{_≡_}
 use mathlib.Core.List.{List, [], _∷_, _++_}
-use lib.ListN.{length, take}
+use lib.ListN.{length, getD, take, replicate}
 use lib.Seq.{sets}
-use Rattle.endian.specs.Big.{be64, part}
+use lib.IntN.{subℕ}
+use Rattle.endian.specs.Big.{be64, bytes32, bytes64, part}
 use Rattle.units.specs.Plan.{Plan, planUnits, planNumber}
+use Rattle.tally.specs.Tally.{difference}
 use Rattle.qcow2_spec.specs.Header.{judge}
 use Rattle.qcow2_spec.specs.Counts.{free}
 use Rattle.qcow2_spec.specs.Guest.{guestBytes, readNumber}
@@ -16,7 +18,7 @@ use Rattle.qcow2_spec.specs.Store.{writePlan, discardPlan}
 use Rattle.qcow2_spec.specs.Check.{verdict, repairPlan}
 use Rattle.qcow2_spec.specs.declared.Listed.the-variants.{Refused, Rows}
 use Rattle.qcow2_spec.specs.declared.Verdict.the-variants.{Sound, Leaks}
-use Rattle.bench_table.specs.Bench.{bench, benchWith, marked}
+use Rattle.bench_table.specs.Bench.{bench, benchWith, marked, widthed, oneBit, twoBits, fourBits, eightBits, wideBits, widestBits}
 
 -- the units of a plan's whole list
 unfoldable pub cost : Plan → ℕ
@@ -113,6 +115,38 @@ pub record Runs (store : Plan → ℕ → List ℕ → List ℕ) (five : List �
   pub no-room : runRows (turned store five x) 33278 4 1 ≡ 0 ∷ 3582 ∷ 2 ∷ []
   pub marks : runRows (stale store five) 33790 4 2 ≡ 1002 ∷ 0 ∷ 2 ∷ 1003 ∷ 0 ∷ 2 ∷ []
 
+-- an image with counts of some width after the write of five bytes, cut after a units
+unfoldable pub writtenTo : (Plan → ℕ → List ℕ → List ℕ) → List ℕ → (s : List ℕ) → ℕ → List ℕ
+writtenTo store five s a = store (writePlan s 33285 five) a s
+
+-- counts of other widths: the write's two new counts may share a byte, and each unit keeps what stands in it then
+pub record Widths (store : Plan → ℕ → List ℕ → List ℕ) (five : List ℕ) : Type 0 where
+  pub one-sound : verdict oneBit ≡ Sound
+  pub one-units : cost (writePlan oneBit 33285 five) ≡ 1028
+  pub one-first : getD (writtenTo store five oneBit 513) 1024 0 ≡ 31
+  pub one-both : getD (writtenTo store five oneBit 1028) 1024 0 ≡ 63
+  pub one-cut : verdict (writtenTo store five oneBit 514) ≡ Leaks 2
+  pub one-mended : getD (store (repairPlan (writtenTo store five oneBit 514) 16) 2 (writtenTo store five oneBit 514)) 1024 0 ≡ 15
+  pub one-whole : verdict (writtenTo store five oneBit 1028) ≡ Sound
+  pub one-freed : getD (store (discardPlan (writtenTo store five oneBit 1028) 65) 2 (writtenTo store five oneBit 1028)) 1024 0 ≡ 31
+  pub two-sound : verdict twoBits ≡ Sound
+  pub two-both : part (writtenTo store five twoBits 1028) 1024 2 ≡ 85 ∷ 5 ∷ []
+  pub four-sound : verdict fourBits ≡ Sound
+  pub four-both : part (writtenTo store five fourBits 1028) 1024 3 ≡ 17 ∷ 17 ∷ 17 ∷ []
+  pub eight-sound : verdict eightBits ≡ Sound
+  pub eight-both : part (writtenTo store five eightBits 1028) 1028 2 ≡ 1 ∷ 1 ∷ []
+  pub wide-sound : verdict wideBits ≡ Sound
+  pub wide-both : part (writtenTo store five wideBits 1028) 1040 8 ≡ bytes32 1 ++ bytes32 1
+  pub wide-leak : verdict (sets wideBits 1040 (bytes32 70000)) ≡ Leaks 1
+  pub widest-sound : verdict widestBits ≡ Sound
+  pub widest-both : part (writtenTo store five widestBits 1028) 1056 16 ≡ bytes64 1 ++ bytes64 1
+  pub cut-off : difference 70000 1 ≡ subℕ 65535 0
+  pub just-below : difference 65535 1 ≡ subℕ 65534 0
+  pub order-7 : judge (widthed 7 []) ≡ 6
+  pub version-2 : free (sets (widthed 7 []) 4 (bytes32 2)) ≡ 12
+  pub one-block : judge (bench ++ replicate 25088 0) ≡ 0
+  pub two-blocks : judge (widestBits ++ replicate 25088 0) ≡ 10
+
 -- the starred lines
 pub record Starred (store : Plan → ℕ → List ℕ → List ℕ) (five : List ℕ) (x y z : ℕ) : Type 0 where
   pub stored : Stored store five x y z
@@ -125,6 +159,7 @@ pub record Starred (store : Plan → ℕ → List ℕ → List ℕ) (five : List
   pub edges : Edges store five x y z
   pub cleared : Cleared store five x y z
   pub runs : Runs store five x y z
+  pub widths : Widths store five
 
 -- the lines on the header
 pub record Headers : Type 0 where

@@ -113,7 +113,7 @@ pub extern "C" fn qcow2_check(
 
 // A stored count less the scratch's figure, with its sign: below zero the cluster is short.
 #[no_mangle]
-pub extern "C" fn qcow2_difference(stored: u16, figure: u8) -> i32
+pub extern "C" fn qcow2_difference(stored: u64, figure: u8) -> i32
     ensures { λ r. ⌜ r ≡ difference stored figure ⌝ }
 {
     tally::against::difference(stored, figure)

@@ -1,15 +1,16 @@
 -- What the check's functions know when they are called, and what they promise each other.
 -- Assumes nothing.
-use Prim.Native.Nat.{ℕ, suc, _+_, _-_, _*_, _/_, _^_, _≤_, _<_}
+use Prim.Native.Nat.{ℕ, suc, _+_, _-_, _*_, _/_, _%_, _^_, _≤_, _<_}
 use mathlib.Core.Path.{_≡_}
 use mathlib.Core.Bool.{Bool, true, false, not, _&&_}
 use mathlib.Core.List.{List, [], _∷_}
 use lib.Dec.{eqb, ltb}
-use lib.ListN.{length, getD, drop}
-use Rattle.choice.specs.Pick.{if_then_else_}
-use Rattle.endian.specs.Big.{be16, be64, part, entries}
+use lib.ListN.{length, drop}
+use Rattle.choice.specs.Pick.{if_then_else_, first}
+use Rattle.endian.specs.Big.{be64, part, entries}
+use Rattle.widths.specs.Width.{number}
 use Rattle.tally.specs.Tally.{bumpAll, joined, Counting}
-use Rattle.qcow2_spec.specs.Header.{mostBits, mostLength, version, clusterSize, perTable, l1At}
+use Rattle.qcow2_spec.specs.Header.{mostBits, mostLength, mostOrder, version, clusterSize, perTable, l1At}
 use Rattle.qcow2_spec.specs.Entries.{place, goodL1, goodL2}
 use Rattle.qcow2_spec.specs.Counts.{countOf}
 use Rattle.qcow2_spec.specs.References.{l2Refs, l2Entries}
@@ -73,26 +74,22 @@ walked per w k =
     if ltb (w .good) (w .row) then record { row = w .row + 1; good = w .good; below = w .below } else
     record { row = w .row + 1; good = if eqb (w .good) (w .row) && eqb k per then w .row + 1 else w .good; below = k }
 
--- the counts of the m clusters from base on stand from a place on
-pub record Block (s : List ℕ) (base m at : ℕ) : Type 0 where
-  pub inside : at + 2 * m ≤ length s
-  pub stands : (j : ℕ) → j < m → countOf s (base + j) ≡ be16 s (at + 2 * j)
+-- the counts of the m clusters from base on, of 2 ^ order bits, stand from a bit on
+pub record Packed (order : ℕ) (s : List ℕ) (base m at : ℕ) : Type 0 where
+  pub narrow : order ≤ mostOrder
+  pub short : length s ≤ mostLength
+  pub aligned : at % 2 ^ order ≡ 0
+  pub inside : at + 2 ^ order * m ≤ 8 * length s
+  pub stands : (j : ℕ) → j < m → countOf s (base + j) ≡ number (2 ^ order) s (at + 2 ^ order * j)
 
 -- the first k clusters are judged by their counts and the figures fs
 abbrev pub Judging : (s fs : List ℕ) (k : ℕ) → Counted → Type 0
 Judging s fs k c = Counting (short s fs) (over s fs) (length fs) k c
 
--- count j of a block is 0
-unfoldable pub zeroAt : List ℕ → ℕ → Bool
-zeroAt block j = eqb (be16 block (2 * j)) 0
-
--- count j of a block is not figure j
-unfoldable pub unlikeAt : (block figures : List ℕ) → ℕ → Bool
-unlikeAt block figures j = not (eqb (be16 block (2 * j)) (getD figures j 0))
-
--- count j of a block is below figure j
-unfoldable pub underAt : (block figures : List ℕ) → ℕ → Bool
-underAt block figures j = ltb (be16 block (2 * j)) (getD figures j 0)
+-- the same, or the lowest short cluster is found
+pub record Judged (s fs : List ℕ) (k : ℕ) (c : Counted) : Type 0 where
+  pub none : length fs ≤ c .low → Judging s fs k c
+  pub found : c .low < length fs → c .low ≡ first (short s fs) 0 (length fs)
 
 -- L1 entry i
 unfoldable pub rowAt : List ℕ → ℕ → ℕ

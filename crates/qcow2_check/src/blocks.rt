@@ -1,35 +1,61 @@
 // Counts of 0 in the refcount blocks.
 ghost use mathlib.Core.Path.{_≡_};
-ghost use Prim.Native.Nat.{_*_, _≤_, _<_};
+ghost use Prim.Native.Nat.{_*_, _^_, _≤_, _<_};
 ghost use lib.Dec.{eqb};
 ghost use lib.ListN.{length};
 ghost use Rattle.choice.specs.Pick.{if_then_else_, count};
-ghost use Rattle.qcow2_spec.specs.Header.{perBlock};
+ghost use Rattle.packed.specs.Packed.{zeroAt};
+ghost use Rattle.qcow2_spec.specs.Header.{mostLength, mostOrder, perBlock};
 ghost use Rattle.qcow2_spec.specs.Counts.{freeAt};
 ghost use Rattle.qcow2_spec.specs.Opened.{Opened};
-ghost use Rattle.qcow2_check.specs.Known.{zeroAt};
 use crate::lookup;
 use qcow2_spec::Geometry;
 
 // 1 for a count of 0.
-fn one_free(stored: u16) -> usize
+fn one_free(stored: u64) -> usize
     ensures { λ r. ⌜ (r ≡ (if eqb stored 0 then 1 else 0)) × (r ≤ 1) ⌝ }
 {
     if stored == 0 { 1 } else { 0 }
 }
 
-// How many of the first m counts of a refcount block are 0.
+// How many of the first m counts of 16 bits of a refcount block are 0.
 fn zeros_in(block: &[u8], m: usize) -> usize
     requires { ⌜ 2 * m ≤ length (now block) ⌝ }
-    ensures { λ r. ⌜ r ≡ count (zeroAt (now (block .entry))) 0 m ⌝ }
+    ensures { λ r. ⌜ r ≡ count (zeroAt 4 (now (block .entry))) 0 m ⌝ }
 {
     let mut n = 0;
     let mut j = 0;
     while j < m {
-        n += one_free(endian::load16(block, 2 * j));
+        n += one_free(endian::load16(block, 2 * j) as u64);
         j += 1;
     }
     n
+}
+
+// How many of the first m counts of 2 to the power order bits are 0.
+fn zeros_packed(block: &[u8], order: u32, m: usize) -> usize
+    requires { ⌜ ((order ≤ mostOrder) × (2 ^ order * m ≤ 8 * length (now block))) × (length (now block) ≤ mostLength) ⌝ }
+    ensures { λ r. ⌜ r ≡ count (zeroAt order (now (block .entry))) 0 m ⌝ }
+{
+    let width = power::power(order) as usize;
+    let mut n = 0;
+    let mut j = 0;
+    while j < m {
+        n += one_free(widths::load(block, order, width * j));
+        j += 1;
+    }
+    n
+}
+
+// The same, where 16 bits are the common case.
+fn zeros_any(block: &[u8], order: u32, m: usize) -> usize
+    requires { ⌜ ((order ≤ mostOrder) × (2 ^ order * m ≤ 8 * length (now block))) × (length (now block) ≤ mostLength) ⌝ }
+    ensures { λ r. ⌜ r ≡ count (zeroAt order (now (block .entry))) 0 m ⌝ }
+{
+    if order == 4 {
+        return zeros_in(block, m);
+    }
+    zeros_packed(block, order, m)
 }
 
 // How many of the first m clusters of refcount block b are free.
@@ -39,5 +65,5 @@ pub(crate) fn free_in(image: &[u8], b: usize, m: usize, g: Geometry) -> usize
 {
     let at = lookup::block_at(image, b, g);
     let c = power::power(g.bits) as usize;
-    zeros_in(&image[at..at + c], m)
+    zeros_any(&image[at..at + c], g.order, m)
 }

@@ -12,7 +12,6 @@ use qcow2_spec::Geometry;
 use qcow2_spec::Verdict;
 
 mod blocks;
-mod compare;
 mod counts;
 mod fixed;
 mod groups;
@@ -26,12 +25,6 @@ pub struct Progress {
     pub row: usize,
     pub good: usize,
     pub below: usize,
-}
-
-// A refcount block against the figures of its clusters: how many counts differ, and how many are below the figure.
-pub struct Compared {
-    pub unlike: u16,
-    pub under: u16,
 }
 
 // Counts all references in a scratch of one byte for each cluster, and finds the first bad entry.
@@ -61,7 +54,7 @@ pub fn free_clusters(image: &[u8], g: Geometry) -> usize
     requires { ⌜ Opened g (now image) ⌝ }
     ensures { λ r. ⌜ r ≡ free (now (image .entry)) ⌝ }
 {
-    let per = (power::power(g.bits) / 2) as usize;
+    let per = lookup::per_block(g.bits, g.order);
     let n = g.clusters;
     let mut found = 0;
     let mut b = 0;

@@ -72,12 +72,14 @@ module _ (m : ℕ) where
         go n true e q = ltb-true 0 n e
         go n false e q = absurd (let z : _≡_ {A = ℕ} 0 1 = cc in omega arith)
 
-    pub alone : verdict s ≡ Leaks m → (k : ℕ) → k < clusters s → occurrences k (references s) ≤ 1
+    pub figure-one : verdict s ≡ Leaks m → (k : ℕ) → k < clusters s → getD (figuresOf s) k 0 ≤ 1
     unfolding twice
-    alone h k l =
+    figure-one h k l =
         let fs : List ℕ = figuresOf s in
-        let f : getD fs k 0 ≤ 1 = ltb-false 1 (getD fs k 0) (none-found (twice fs) 0 (clusters s) k (omega (arith, leaks h .0)) (omega arith) (omega arith)) in
-        omega (arith, figure-is s k l)
+        ltb-false 1 (getD fs k 0) (none-found (twice fs) 0 (clusters s) k (omega (arith, leaks h .0)) (omega arith) (omega arith))
+
+    pub alone : verdict s ≡ Leaks m → (k : ℕ) → k < clusters s → occurrences k (references s) ≤ 1
+    alone h k l = omega (arith, figure-one h k l, figure-is s k l)
 
     -- a count above its figure is one to set
     over-most : (fs : List ℕ) (i k : ℕ) → countThat (over s fs) i k ≤ length (repairUnits s fs i k)

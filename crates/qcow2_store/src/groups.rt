@@ -1,12 +1,11 @@
 // Counts of a refcount block tested and stored many at once: loops without an early exit, which the compiler makes vector code of.
 ghost use mathlib.Core.Path.{_≡_};
-ghost use mathlib.Core.Bool.{_||_};
-ghost use Prim.Native.Nat.{_+_, _*_, _≤_};
-ghost use lib.Dec.{eqb, ltb};
+ghost use Prim.Native.Nat.{_+_, _*_, _%_, _≤_};
+ghost use lib.Dec.{eqb};
 ghost use lib.ListN.{length};
-ghost use Rattle.choice.specs.Pick.{if_then_else_, first};
+ghost use Rattle.choice.specs.Pick.{if_then_else_};
 ghost use Rattle.units.specs.Units.{applyAll};
-ghost use Rattle.qcow2_store.specs.Blocks.{le16, zeroCount};
+ghost use Rattle.qcow2_store.specs.Blocks.{le16};
 ghost use Rattle.qcow2_store.specs.Leaks.{fix, fixes};
 
 // A byte as a wider number.
@@ -25,35 +24,11 @@ fn pair(p: &[u8]) -> u16
 }
 
 // The count at a place with its bytes swapped. The compiler makes one load of two bytes that are lent as a part and joined low byte first.
-pub fn swapped(s: &[u8], at: usize) -> u16
+fn swapped(s: &[u8], at: usize) -> u16
     requires { ⌜ at + 2 ≤ length (now s) ⌝ }
     ensures { λ r. ⌜ r ≡ le16 (now (s .entry)) at ⌝ }
 {
     pair(&s[at..at + 2])
-}
-
-// Whether x is 0 or a zero was found before. x is tested first: with the order turned the compiler makes no vector code of a loop over it.
-fn zero_or(x: u16, found: bool) -> bool
-    ensures { λ r. ⌜ r ≡ (eqb x 0 || found) ⌝ }
-{
-    if x == 0 {
-        return true;
-    }
-    found
-}
-
-// Whether one of n counts of a block from index j on is 0.
-pub fn some_zero(block: &[u8], j: usize, n: usize) -> bool
-    requires { ⌜ 2 * (j + n) ≤ length (now block) ⌝ }
-    ensures { λ r. ⌜ r ≡ ltb (first (zeroCount (now (block .entry))) j n) (j + n) ⌝ }
-{
-    let mut found = false;
-    let mut i = 0;
-    while i < n {
-        found = zero_or(swapped(block, 2 * (j + i)), found);
-        i += 1;
-    }
-    found
 }
 
 // 1 for two numbers that differ.
@@ -69,7 +44,7 @@ fn unequal(a: u16, b: u16) -> u16
 // How many of the counts from a place on differ from refs.
 pub fn differing(s: &[u8], at: usize, refs: &[u8]) -> usize
     requires { ⌜ (at + 2 * length (now refs) ≤ length (now s)) × (length (now refs) ≤ 32768) ⌝ }
-    ensures { λ r. ⌜ (r ≡ length (fixes (now (s .entry)) at (now (refs .entry)) (length (now (refs .entry))))) × (r ≤ length (now (refs .entry))) ⌝ }
+    ensures { λ r. ⌜ (r ≡ length (fixes 4 (now (s .entry)) (8 * at) (now (refs .entry)) (length (now (refs .entry))))) × (r ≤ length (now (refs .entry))) ⌝ }
 {
     let mut n = 0;
     let mut j = 0;
@@ -83,15 +58,15 @@ pub fn differing(s: &[u8], at: usize, refs: &[u8]) -> usize
 // The count at a place becomes want, which it may be already.
 fn set_count(image: &mut [u8], at: usize, want: u8)
     requires { ⌜ at + 2 ≤ length (now image) ⌝ }
-    ensures { λ _. ⌜ now (image .exit) ≡ applyAll (fix (now (image .entry)) at want) (now (image .entry)) ⌝ }
+    ensures { λ _. ⌜ now (image .exit) ≡ applyAll (fix 4 (now (image .entry)) (8 * at) want) (now (image .entry)) ⌝ }
 {
     endian::store16(image, at, wide(want));
 }
 
 // The counts from a place on become refs.
 pub fn set_counts(image: &mut [u8], at: usize, refs: &[u8])
-    requires { ⌜ at + 2 * length (now refs) ≤ length (now image) ⌝ }
-    ensures { λ _. ⌜ now (image .exit) ≡ applyAll (fixes (now (image .entry)) at (now (refs .entry)) (length (now (refs .entry)))) (now (image .entry)) ⌝ }
+    requires { ⌜ (at + 2 * length (now refs) ≤ length (now image)) × (at % 2 ≡ 0) ⌝ }
+    ensures { λ _. ⌜ now (image .exit) ≡ applyAll (fixes 4 (now (image .entry)) (8 * at) (now (refs .entry)) (length (now (refs .entry)))) (now (image .entry)) ⌝ }
 {
     let mut j = 0;
     while j < refs.len() {

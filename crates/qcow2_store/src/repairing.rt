@@ -11,8 +11,10 @@ ghost use Rattle.qcow2_spec.specs.Store.{clearUnits, clearing};
 ghost use Rattle.qcow2_spec.specs.References.{figuresOf};
 ghost use Rattle.qcow2_spec.specs.Check.{repairUnits, verdict, verdictPlan};
 ghost use Rattle.qcow2_spec.specs.Opened.{Opened};
-ghost use Rattle.qcow2_store.specs.Blocks.{Reach, countPlace};
-ghost use Rattle.qcow2_store.specs.Leaks.{Figured, Laid, Leaking, fix, fixes, mendUnits};
+ghost use Rattle.qcow2_store.specs.Blocks.{Reach, Row, perOf, countPlace};
+ghost use Rattle.packed.specs.Packed.{Single};
+ghost use Rattle.widths.specs.Width.{Inside};
+ghost use Rattle.qcow2_store.specs.Leaks.{Figured, Laid, Leaking, Ones, fix, fixes, mendUnits};
 use crate::clearing;
 use crate::free;
 use crate::groups;
@@ -20,39 +22,68 @@ use qcow2_spec::Geometry;
 use qcow2_spec::Verdict;
 use units::Outcome;
 
-// The count at a place is to be want. Returns the units of the repair so far, of which n came before; those past the allowance are only counted.
-fn repair_count(image: &mut [u8], at: usize, want: u16, n: usize, allowance: usize) -> usize
-    requires { ⌜ (at + 2 ≤ length (now image)) × (n ≤ mostLength) ⌝ }
-    ensures { λ r. ⌜ (r ≡ n + length (fix (now (image .entry)) at want)) × (now (image .exit) ≡ applyAll (take (allowance - n) (fix (now (image .entry)) at want)) (now (image .entry))) ⌝ }
+// A byte as a wider number.
+fn wide(x: u8) -> u64
+    ensures { λ r. ⌜ r ≡ x ⌝ }
 {
-    if endian::load16(image, at) == want {
+    x as u64
+}
+
+// The count of 2 to the power order bits from a bit on is to be want. Returns the units of the repair so far, of which n came before; those past the allowance are only counted.
+fn repair_count(
+    image: &mut [u8],
+    order: u32,
+    at: usize,
+    want: u64,
+    n: usize,
+    allowance: usize,
+) -> usize
+    requires { ⌜ Inside order (length (now image)) at × (n ≤ mostLength) ⌝ }
+    ensures { λ r. ⌜ (r ≡ n + length (fix order (now (image .entry)) at want)) × (now (image .exit) ≡ applyAll (take (allowance - n) (fix order (now (image .entry)) at want)) (now (image .entry))) ⌝ }
+{
+    if widths::load(image, order, at) == want {
         return n;
     }
     if n < allowance {
-        endian::store16(image, at, want);
+        widths::store(image, order, at, want);
         return n + 1;
     }
     n + 1
 }
 
-// The counts from a place on are to be refs, one after another.
-fn repair_each(image: &mut [u8], at: usize, refs: &[u8], n: usize, allowance: usize) -> usize
-    requires { ⌜ (at + 2 * length (now refs) ≤ length (now image)) × ((length (now image) ≤ mostLength) × (n + length (now refs) ≤ mostLength)) ⌝ }
-    ensures { λ r. ⌜ (r ≡ n + length (fixes (now (image .entry)) at (now (refs .entry)) (length (now (refs .entry))))) × (now (image .exit) ≡ applyAll (take (allowance - n) (fixes (now (image .entry)) at (now (refs .entry)) (length (now (refs .entry))))) (now (image .entry))) ⌝ }
+// The counts from a bit on are to be refs, one after another.
+fn repair_each(
+    image: &mut [u8],
+    order: u32,
+    at: usize,
+    refs: &[u8],
+    n: usize,
+    allowance: usize,
+) -> usize
+    requires { ⌜ Row order (length (now image)) at (length (now refs)) × ((length (now image) ≤ mostLength) × (n + length (now refs) ≤ mostLength)) ⌝ }
+    ensures { λ r. ⌜ (r ≡ n + length (fixes order (now (image .entry)) at (now (refs .entry)) (length (now (refs .entry))))) × (now (image .exit) ≡ applyAll (take (allowance - n) (fixes order (now (image .entry)) at (now (refs .entry)) (length (now (refs .entry))))) (now (image .entry))) ⌝ }
 {
+    let width = power::power(order) as usize;
     let mut spent = n;
     let mut j = 0;
     while j < refs.len() {
-        spent = repair_count(image, at + 2 * j, groups::wide(refs[j]), spent, allowance);
+        spent = repair_count(
+            image,
+            order,
+            at + width * j,
+            wide(refs[j]),
+            spent,
+            allowance,
+        );
         j += 1;
     }
     spent
 }
 
-// The counts from a place on are to be refs: all of them at once, unless the allowance ends among them.
+// The counts of 16 bits from a byte on are to be refs: all of them at once, unless the allowance ends among them.
 fn repair_run(image: &mut [u8], at: usize, refs: &[u8], n: usize, allowance: usize) -> usize
-    requires { ⌜ ((at + 2 * length (now refs) ≤ length (now image)) × ((length (now image) ≤ mostLength) × (n + length (now refs) ≤ mostLength))) × (length (now refs) ≤ 32768) ⌝ }
-    ensures { λ r. ⌜ (r ≡ n + length (fixes (now (image .entry)) at (now (refs .entry)) (length (now (refs .entry))))) × (now (image .exit) ≡ applyAll (take (allowance - n) (fixes (now (image .entry)) at (now (refs .entry)) (length (now (refs .entry))))) (now (image .entry))) ⌝ }
+    requires { ⌜ (((at + 2 * length (now refs) ≤ length (now image)) × (at % 2 ≡ 0)) × ((length (now image) ≤ mostLength) × (n + length (now refs) ≤ mostLength))) × (length (now refs) ≤ 32768) ⌝ }
+    ensures { λ r. ⌜ (r ≡ n + length (fixes 4 (now (image .entry)) (8 * at) (now (refs .entry)) (length (now (refs .entry))))) × (now (image .exit) ≡ applyAll (take (allowance - n) (fixes 4 (now (image .entry)) (8 * at) (now (refs .entry)) (length (now (refs .entry))))) (now (image .entry))) ⌝ }
 {
     let m = groups::differing(image, at, refs);
     if m == 0 {
@@ -65,7 +96,59 @@ fn repair_run(image: &mut [u8], at: usize, refs: &[u8], n: usize, allowance: usi
         groups::set_counts(image, at, refs);
         return n + m;
     }
-    repair_each(image, at, refs, n, allowance)
+    repair_each(image, 4, 8 * at, refs, n, allowance)
+}
+
+// How many of the counts from a bit on, a byte's first, differ from refs, of which none is above 1.
+fn unlike(image: &[u8], order: u32, at: usize, refs: &[u8]) -> usize
+    requires { ⌜ (Row order (length (now image)) at (length (now refs)) × (length (now image) ≤ mostLength)) × ((at % 8 ≡ 0) × ((length (now refs) ≤ 32768) × Single (now refs))) ⌝ }
+    ensures { λ r. ⌜ (r ≡ length (fixes order (now (image .entry)) at (now (refs .entry)) (length (now (refs .entry))))) × (r ≤ length (now (refs .entry))) ⌝ }
+{
+    let c = packed::figures::compare(&image[at / 8..image.len()], order, refs);
+    c.unlike as usize
+}
+
+// The counts from a bit on are to be refs: one by one where one of them is not and the allowance has not ended.
+fn repair_packed(
+    image: &mut [u8],
+    order: u32,
+    at: usize,
+    refs: &[u8],
+    n: usize,
+    allowance: usize,
+) -> usize
+    requires { ⌜ (Row order (length (now image)) at (length (now refs)) × ((length (now image) ≤ mostLength) × (n + length (now refs) ≤ mostLength))) × ((at % 8 ≡ 0) × ((length (now refs) ≤ 32768) × Single (now refs))) ⌝ }
+    ensures { λ r. ⌜ (r ≡ n + length (fixes order (now (image .entry)) at (now (refs .entry)) (length (now (refs .entry))))) × (now (image .exit) ≡ applyAll (take (allowance - n) (fixes order (now (image .entry)) at (now (refs .entry)) (length (now (refs .entry))))) (now (image .entry))) ⌝ }
+{
+    let d = unlike(image, order, at, refs);
+    if d == 0 {
+        return n;
+    }
+    if allowance <= n {
+        return n + d;
+    }
+    repair_each(image, order, at, refs, n, allowance)
+}
+
+// The counts from a bit on are to be refs.
+fn repair_any(
+    image: &mut [u8],
+    order: u32,
+    at: usize,
+    refs: &[u8],
+    n: usize,
+    allowance: usize,
+) -> usize
+    requires { ⌜ (Row order (length (now image)) at (length (now refs)) × ((length (now image) ≤ mostLength) × (n + length (now refs) ≤ mostLength))) × ((length (now refs) ≤ 32768) × Single (now refs)) ⌝ }
+    ensures { λ r. ⌜ (r ≡ n + length (fixes order (now (image .entry)) at (now (refs .entry)) (length (now (refs .entry))))) × (now (image .exit) ≡ applyAll (take (allowance - n) (fixes order (now (image .entry)) at (now (refs .entry)) (length (now (refs .entry))))) (now (image .entry))) ⌝ }
+{
+    if order == 4 {
+        return repair_run(image, at / 8, refs, n, allowance);
+    }
+    if at % 8 == 0 {
+        return repair_packed(image, order, at, refs, n, allowance);
+    }
+    repair_each(image, order, at, refs, n, allowance)
 }
 
 // The counts of the clusters from i on, which stand in one block, are to be refs.
@@ -77,24 +160,28 @@ fn repair_block(
     n: usize,
     allowance: usize,
 ) -> usize
-    requires { ⌜ (Reach g (now image) i × (i % 2 ^ (g .bits - 1) + length (now refs) ≤ 2 ^ (g .bits - 1))) × ((n + length (now refs) ≤ mostLength) × (length (now refs) ≤ 32768)) ⌝ }
-    ensures { λ r. ⌜ (r ≡ n + length (fixes (now (image .entry)) (countPlace g (now (image .entry)) i) (now (refs .entry)) (length (now (refs .entry))))) × (now (image .exit) ≡ applyAll (take (allowance - n) (fixes (now (image .entry)) (countPlace g (now (image .entry)) i) (now (refs .entry)) (length (now (refs .entry))))) (now (image .entry))) ⌝ }
+    requires { ⌜ (Reach g (now image) i × (i % perOf g + length (now refs) ≤ perOf g)) × (((n + length (now refs) ≤ mostLength) × (length (now refs) ≤ 32768)) × Single (now refs)) ⌝ }
+    ensures { λ r. ⌜ (r ≡ n + length (fixes (g .order) (now (image .entry)) (countPlace g (now (image .entry)) i) (now (refs .entry)) (length (now (refs .entry))))) × (now (image .exit) ≡ applyAll (take (allowance - n) (fixes (g .order) (now (image .entry)) (countPlace g (now (image .entry)) i) (now (refs .entry)) (length (now (refs .entry))))) (now (image .entry))) ⌝ }
 {
     let at = free::count_place(image, g, i);
-    repair_run(image, at, refs, n, allowance)
+    repair_any(image, g.order, at, refs, n, allowance)
 }
 
-// How many clusters from i on are repaired at once: their counts stand in one block, and 16 bits can number them.
+// How many clusters from i on are repaired at once: their counts stand in one block, and 16 bits can number them. Where one of them differs they are
+// set one by one, but for counts of 16 bits.
 fn group_of(g: Geometry, i: usize) -> usize
-    requires { ⌜ ((1 ≤ g .bits) × (g .bits ≤ mostBits)) × (i < g .clusters) ⌝ }
-    ensures { λ r. ⌜ (((1 ≤ r) × (i + r ≤ g .clusters)) × (i % 2 ^ (g .bits - 1) + r ≤ 2 ^ (g .bits - 1))) × (r ≤ 32768) ⌝ }
+    requires { ⌜ ((g .order ≤ g .bits) × (g .bits ≤ mostBits)) × (i < g .clusters) ⌝ }
+    ensures { λ r. ⌜ (((1 ≤ r) × (i + r ≤ g .clusters)) × (i % perOf g + r ≤ perOf g)) × (r ≤ 32768) ⌝ }
 {
-    power::lesser(free::run_of(g, i), 32768)
+    if g.order == 4 {
+        return power::lesser(free::run_of(g, i), 32768);
+    }
+    power::lesser(free::run_of(g, i), 512)
 }
 
 // The counts of all clusters are to be refs.
 fn repair(image: &mut [u8], g: Geometry, refs: &[u8], allowance: usize) -> Outcome
-    requires { ⌜ Laid g (now image) × (g .clusters ≤ length (now refs)) ⌝ }
+    requires { ⌜ (Laid g (now image) × (g .clusters ≤ length (now refs))) × Ones (g .clusters) (now refs) ⌝ }
     ensures { λ r. ⌜ Done (planned (mendUnits g (now (image .entry)) (now (refs .entry)) (g .clusters))) allowance (now (image .entry)) r (now (image .exit)) ⌝ }
 {
     let mut i = 0;

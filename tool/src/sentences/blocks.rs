@@ -48,7 +48,7 @@ impl<'a> Table<'a> {
         let fields = Fields::read(subject.bytes)?;
         let cluster = fields.cluster()?;
         let clusters = subject.length / cluster;
-        Some(Table { subject, fields, cluster, clusters, per_block: cluster / 2 })
+        Some(Table { subject, fields, cluster, clusters, per_block: fields.per_block()? })
     }
 
     /// Blocks that a file of this length needs.
@@ -116,7 +116,10 @@ impl<'a> Table<'a> {
             None => return (what, new_counts()),
         }
         let last = self.entries().filter(|entry| entry.1 != 0).last();
-        let length = last.map(|(last, _)| (last * self.per_block + 1) * self.cluster);
+        let length = last.and_then(|(last, _)| {
+            let clusters = last.checked_mul(self.per_block)?.checked_add(1)?;
+            clusters.checked_mul(self.cluster)
+        });
         let fits = |length: &u64| {
             *length <= MAX_IMAGE && self.first_wrong(*length).is_none() && self.blocks_are_apart()
         };

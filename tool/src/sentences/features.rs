@@ -3,6 +3,7 @@
 use super::{Remedy, Subject, WITHOUT};
 use crate::extensions;
 use crate::fields::{Fields, HEADER_LENGTH};
+use crate::width::MAX_ORDER;
 
 pub fn sentence(number: u32, subject: &Subject) -> (String, Remedy) {
     let Some(fields) = Fields::read(subject.bytes) else {
@@ -31,9 +32,9 @@ fn not_supported(subject: &Subject, fields: &Fields) -> String {
     if fields.snapshots != 0 {
         causes.push(format!("the image has {} internal snapshot(s)", fields.snapshots));
     }
-    if fields.order != 4 {
-        let width = fields.count_width().map_or("too many".into(), |width| width.to_string());
-        causes.push(format!("its counts have {width} bits (refcount_order {})", fields.order));
+    if fields.width().is_none() {
+        let order = fields.order;
+        causes.push(format!("refcount_order is {order}, and only 0 to {MAX_ORDER} are accepted"));
     }
     if fields.header_length != HEADER_LENGTH {
         let maker = if fields.header_length == 112 { " as qemu 5.1 and later make it" } else { "" };
@@ -47,7 +48,7 @@ fn remedy_not_supported(subject: &Subject, fields: &Fields) -> Remedy {
     let length_alone = fields.backing == 0
         && fields.crypt == 0
         && fields.snapshots == 0
-        && fields.order == 4
+        && fields.width().is_some()
         && fields.incompatible == 0
         && fields.autoclear == 0;
     if length_alone && can_be_set_back(subject, fields) {

@@ -165,7 +165,9 @@ fn tables(subject: &Subject, fields: &Fields, cluster: u64) -> (String, Remedy) 
             return (what, lost());
         }
     }
-    let needed = (subject.length / cluster).div_ceil(cluster / 2);
+    // Another refcount_order is number 6, which comes first.
+    let per_block = fields.per_block().unwrap_or(cluster / 2);
+    let needed = (subject.length / cluster).div_ceil(per_block);
     let what = format!(
         "the refcount table has {} entries, and {needed} are needed for a file of {} bytes",
         clusters * u128::from(cluster / 8),

@@ -22,7 +22,7 @@ pub fn refuses(subject: &Subject, fields: &Fields) -> Option<String> {
         "such a crypt_method"
     } else if fields.cluster().is_none() {
         "such cluster_bits"
-    } else if fields.count_width().is_none() {
+    } else if fields.width().is_none() {
         "such a refcount_order"
     } else if fields.header_length < HEADER_LENGTH {
         "such a header_length"

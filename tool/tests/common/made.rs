@@ -19,8 +19,13 @@ pub struct Made {
 }
 
 pub fn made(version: u8, bits: u32, clusters: usize, size: u64) -> Made {
+    made_at(4, version, bits, clusters, size)
+}
+
+/// The same with counts of 2^order bits.
+pub fn made_at(order: u32, version: u8, bits: u32, clusters: usize, size: u64) -> Made {
     let cluster = 1usize << bits;
-    let blocks = clusters.div_ceil(cluster / 2);
+    let blocks = clusters.div_ceil((8 * cluster) >> order);
     // One entry more than is needed.
     let table_clusters = (8 * (blocks + 1)).div_ceil(cluster);
     let l1_size = (size as usize).div_ceil(cluster * cluster / 8);
@@ -38,15 +43,44 @@ pub fn made(version: u8, bits: u32, clusters: usize, size: u64) -> Made {
     put64(&mut image, 48, cluster as u64);
     image[56..60].copy_from_slice(&(table_clusters as u32).to_be_bytes());
     if version == 3 {
-        (image[99], image[103]) = (4, 104);
+        (image[99], image[103]) = (order as u8, 104);
     }
     for block in 0..blocks {
         put64(&mut image, cluster + 8 * block, (block_at + block * cluster) as u64);
     }
-    for index in 0..used {
-        image[block_at + 2 * index + 1] = 1;
-    }
+    // The blocks stand one after the other, and so do all counts.
+    (0..used).for_each(|index| put_count(&mut image[block_at..], order, index, 1));
     Made { image, cluster, table_at: cluster, block_at, l1_at }
+}
+
+/// Puts a count of 2^order bits, bit by bit.
+pub fn put_count(counts: &mut [u8], order: u32, index: usize, count: u64) {
+    let width = 1 << order;
+    for bit in 0..width {
+        // A number of several bytes has its lowest bits in the last.
+        let (byte, shift) = match width {
+            1 | 2 | 4 => ((index * width + bit) / 8, (index * width + bit) % 8),
+            _ => (((index + 1) * width - 1 - bit) / 8, bit % 8),
+        };
+        counts[byte] = counts[byte] & !(1 << shift) | ((count >> bit & 1) as u8) << shift;
+    }
+}
+
+/// The count that [`put_count`] puts.
+pub fn get_count(counts: &[u8], order: u32, index: usize) -> u64 {
+    let width = 1 << order;
+    let number = |bytes: &[u8]| bytes.iter().fold(0, |sum, &byte| sum * 256 + u64::from(byte));
+    match width {
+        1 | 2 | 4 => {
+            u64::from(counts[index * width / 8]) >> (index * width % 8) & ((1 << width) - 1)
+        }
+        _ => number(&counts[index * width / 8..][..width / 8]),
+    }
+}
+
+/// The largest count.
+pub fn largest(order: u32) -> u64 {
+    u64::MAX >> (64 - (1 << order))
 }
 
 /// The disk as the tables alone give it: the counts are not looked at, and what

@@ -1,11 +1,11 @@
 use borrow.Author.Needs.{needs}
 use native.Mathlib.Omega.{arith}
-use Prim.Native.Nat.{_*_, _^_, _≤_}
-use mathlib.Core.Path.{_∙_}
+use Prim.Native.Nat.{_+_, _-_, _*_, _^_, _≤_}
+use mathlib.Core.Path.{refl, _∙_}
 use denote.Ref.{now}
 use Rattle.choice.proofs.Searches.{count-most}
-use Rattle.qcow2_check.specs.Known.{zeroAt}
-use Rattle.qcow2_check.proofs.Stored.{block-free, per-is}
+use Rattle.packed.specs.Packed.{zeroAt}
+use Rattle.qcow2_check.proofs.Stored.{block-free, block-bits}
 use Rattle.qcow2_check.proofs.Walks.{part-of, length-part}
 use Rattle.qcow2_check.proofs.blocks.free_in.Statement.{statement}
 use Rattle.qcow2_check.proofs.blocks.free_in.Tie as tie
@@ -14,19 +14,20 @@ block-at-requires : tie.Need-block-at-requires
 block-at-requires c κs = let b = c .before in (b .pre .0, b .pre .1 .0)
 
 -- the counts stand in the block
-room : (c : tie.After-power) → 2 * c .before .before .before .args .m ≤ 2 ^ c .before .before .before .args .g .bits
+room : (c : tie.After-power) → 2 ^ c .before .before .before .args .g .order * c .before .before .before .args .m ≤ 8 * 2 ^ c .before .before .before .args .g .bits
 room c =
     let b = c .before .before .before in
-    omega (arith, per-is (b .pre .0) (c .power .result) (c .power .ensures .0), c .power .ensures .0, b .pre .1 .1)
+    block-bits (b .pre .0) (2 ^ (b .args .g .bits + 3 - b .args .g .order)) refl (b .args .m) (rw (b .pre .0 .is-counts) (b .pre .1 .1))
 
-zeros-in-requires : tie.Need-zeros-in-requires
-zeros-in-requires c κs =
+zeros-any-requires : tie.Need-zeros-any-requires
+zeros-any-requires c κs =
     let w = c .before in
     let p = w .before .block-at in
-    let a = w .before .before .before .args in
+    let b = w .before .before .before in
+    let a = b .args in
     let C = 2 ^ a .g .bits in
     let s = now (a .image) in
-    rw (part-of s (p .result) (w .power .result) C (w .power .ensures .0), length-part s (p .result) C (p .ensures .1)) (room w)
+    rw (part-of s (p .result) (w .power .result) C (w .power .ensures .0), length-part s (p .result) C (p .ensures .1)) ((b .pre .0 .narrow, room w), omega (arith, p .ensures .1, b .pre .0 .short))
 
 returns : tie.Need-returns
 returns c =
@@ -34,10 +35,11 @@ returns c =
     let p = w .before .block-at in
     let b = w .before .before .before in
     let a = b .args in
+    let o = b .pre .0 in
     let s = now (a .image) in
     let e = part-of s (p .result) (w .power .result) (2 ^ a .g .bits) (w .power .ensures .0) in
-    let z = c .zeros-in .ensures in
-    (z ∙ block-free s _ (2 ^ a .g .bits) (a .b) (p .result) (a .m) e (p .ensures .0) (room w) (b .pre .1 .1), rw z (count-most (zeroAt _) 0 (a .m)))
+    let z = c .zeros-any .ensures in
+    (z ∙ block-free s _ (a .g .order) (2 ^ a .g .bits) (a .b) (p .result) (a .m) (o .narrow) (o .is-width) e (p .ensures .0) (room w) (b .pre .1 .1), rw z (count-most (zeroAt (a .g .order) _) 0 (a .m)))
 
 pub free-in-spec : {M : Type 1} → statement M
 free-in-spec =
@@ -49,5 +51,5 @@ free-in-spec =
     (search needs)
     (search needs)
     (search needs)
-    zeros-in-requires
+    zeros-any-requires
     returns)

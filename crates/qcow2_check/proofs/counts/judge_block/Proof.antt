@@ -1,58 +1,69 @@
 use borrow.Author.Needs.{needs}
 use native.Mathlib.Omega.{arith}
-use native.Mathlib.Nat.{add-zero}
-use Prim.Native.Nat.{_+_, _-_, _≤_}
+use native.Mathlib.Nat.{add-zero, mul-zero, mul-add, mul-le-mul-left}
+use Prim.Native.Nat.{_+_, _-_, _*_, _^_, _≤_}
 use mathlib.Core.Path.{_≡_}
+use lib.ListN.{length}
 use denote.Ref.{now}
 use Rattle.qcow2_check.specs.Known.{Judging}
-use Rattle.qcow2_check.proofs.Stored.{block-part}
+use Rattle.qcow2_check.proofs.Stored.{packed-part}
+use Rattle.qcow2_check.proofs.Compares.{judged-on}
 use Rattle.qcow2_check.proofs.counts.judge_block.Statement.{statement}
 use Rattle.qcow2_check.proofs.counts.judge_block.Tie as tie
 
 abbrev Inv-loop : tie.InvT-loop
-Inv-loop image scratch at base m d₀ j₀ d j = (j ≤ m) × Judging image scratch (base + j) d
+Inv-loop image scratch order at base m clusters bytes d₀ place₀ j₀ d place j =
+    (j ≤ m) × (8 * place ≡ 8 * at + 2 ^ order * j) × Judging image scratch (base + j) d
 
 abbrev μ-loop : tie.MeasureT-loop
-μ-loop image scratch at base m d₀ j₀ d j = m - j
+μ-loop image scratch order at base m clusters bytes d₀ place₀ j₀ d place j = m - j
+
+power-requires : tie.Need-power-requires Inv-loop μ-loop
+power-requires c κs = omega (arith, c .before .before .pre .0 .0 .narrow)
 
 loop-holds : tie.Need-loop-holds Inv-loop μ-loop
-loop-holds c = (search needs, rw add-zero (c .before .before .pre .1 .1))
-
-mul-judge-group : tie.Need-mul-judge-group Inv-loop μ-loop
-mul-judge-group c = omega (arith, c .before .before .before .before .before .pre .0 .inside)
-
-add-judge-group : tie.Need-add-judge-group Inv-loop μ-loop
-add-judge-group c = omega (arith, c .before .before .before .before .before .pre .0 .inside)
+loop-holds c = let b = c .before .before .before in (search needs, omega (arith, mul-zero (2 ^ b .args .order)), rw add-zero (b .pre .0 .1 .1))
 
 judge-group-requires : tie.Need-judge-group-requires Inv-loop μ-loop
 judge-group-requires c κs =
-    let t = c .before .before in
-    let b = t .before .before .before in
-    let a = b .args in
-    let p = b .pre in (
-      (
-        block-part (now (a .image)) (a .base) (a .m) (a .at) (t .loop .j) (c .lesser .result) (p .0) (omega (arith, c .lesser .ensures)),
-        ((omega (arith, c .lesser .ensures, p .1 .0 .0), p .1 .0 .1), t .loop .inv .1),
-      ),
-      omega (arith, c .lesser .ensures),
-    )
+    let t = c .before .loop in
+    let p = c .before .before .before .before .before .pre in
+    let q = p .0 .1 in
+    ((packed-part (p .0 .0) (t .j) _ _ (t .inv .1) (omega arith), ((omega (arith, q .0 .0), q .0 .1), t .inv .2)), (omega arith, p .1))
 
-loop-less : tie.Need-loop-less Inv-loop μ-loop
-loop-less c = omega (arith, c .before .lesser .ensures)
+returns : tie.Need-returns Inv-loop μ-loop
+returns c = let a = c .before .before .before .before .before .before .before .before .args in judged-on (c .before .before .judge-group .ensures) (c .if1 .taken) (a .base + a .m)
+
+-- the groups so far end inside the image
+room : (c : tie.Else1 Inv-loop μ-loop) → c .before .before .before .before .loop .place ≤ length (now (c .before .before .before .before .before .before .before .before .args .image))
+room c =
+    let t = c .before .before .before .before .loop in
+    let b = c .before .before .before .before .before .before .before .before in
+    omega (arith, t .inv .1, mul-le-mul-left (2 ^ b .args .order) (t .inv .0), b .pre .0 .0 .inside)
+
+add-place : tie.Need-add-place Inv-loop μ-loop
+add-place c = omega (arith, room c, c .before .before .before .before .before .power .ensures, c .before .before .before .before .before .before .before .before .pre .0 .0 .short)
 
 loop-again : tie.Need-loop-again Inv-loop μ-loop
 loop-again c =
-    let l = c .before in
-    let t = l .before .before in
-    let a = t .before .before .before .args in
-    let g : a .base + (t .loop .j + l .lesser .result) ≡ a .base + t .loop .j + l .lesser .result = omega arith in
-    (omega (arith, l .lesser .ensures), rw g (c .judge-group .ensures))
+    let t = c .before .before .before .before .loop in
+    let a = c .before .before .before .before .before .before .before .before .args in
+    let g : a .base + (t .j + 32768) ≡ a .base + t .j + 32768 = omega arith in
+    (omega arith, omega (arith, t .inv .1, mul-add (2 ^ a .order) (t .j) 32768, c .before .before .before .before .before .power .ensures .0), rw g (c .before .before .judge-group .ensures .none (c .if1 .left)))
 
-returns : tie.Need-returns Inv-loop μ-loop
-returns c =
-    let t = c .before in
-    let e : t .loop .j ≡ t .before .before .before .args .m = omega arith in
-    rw e at (t .loop .inv .1)
+judge-group-requires-2 : tie.Need-judge-group-requires-2 Inv-loop μ-loop
+judge-group-requires-2 c κs =
+    let t = c .before .loop in
+    let p = c .before .before .before .before .before .pre in
+    let q = p .0 .1 in
+    ((packed-part (p .0 .0) (t .j) _ _ (t .inv .1) (omega arith), ((omega (arith, q .0 .0), q .0 .1), t .inv .2)), (omega arith, p .1))
+
+returns-2 : tie.Need-returns-2 Inv-loop μ-loop
+returns-2 c =
+    let t = c .before .before .loop in
+    let a = c .before .before .before .before .before .before .args in
+    let e : a .base + t .j + (a .m - t .j) ≡ a .base + a .m = omega arith in
+    rw e at (c .judge-group2 .ensures)
 
 pub judge-block-spec : {M : Type 1} → statement M
 judge-block-spec =
@@ -60,14 +71,18 @@ judge-block-spec =
     (tie.spec
     Inv-loop
     μ-loop
+    power-requires
+    (search needs)
     loop-holds
     (search needs)
     (search needs)
-    mul-judge-group
-    add-judge-group
-    (search needs)
     judge-group-requires
+    returns
+    add-place
     (search needs)
-    loop-less
+    (search needs)
     loop-again
-    returns)
+    (search needs)
+    (search needs)
+    judge-group-requires-2
+    returns-2)

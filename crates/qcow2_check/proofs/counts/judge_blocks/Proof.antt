@@ -1,14 +1,15 @@
 use borrow.Author.Needs.{needs}
 use native.Mathlib.Omega.{arith}
 use native.Mathlib.Nat.{zero-mul}
-use Prim.Native.Nat.{_-_, _*_, _/_, _<_, _≤_, min}
+use Prim.Native.Nat.{_-_, _*_, _<_, _≤_, min}
 use mathlib.Core.Path.{_≡_}
 use lib.ListN.{length}
 use denote.Ref.{now}
 use Rattle.tally.proofs.Counting.{counting-first}
 use Rattle.qcow2_check.specs.Known.{Judging}
+use Rattle.qcow2_check.proofs.Compares.{judged-all, judged-on}
 use Rattle.qcow2_check.proofs.Runs.{few-clusters}
-use Rattle.qcow2_check.proofs.Stored.{block-stands, at-block, per-is, some-per, next-block}
+use Rattle.qcow2_check.proofs.Stored.{at-block, some-per, block-packed, next-block}
 use Rattle.qcow2_check.proofs.counts.judge_blocks.Statement.{statement}
 use Rattle.qcow2_check.proofs.counts.judge_blocks.Tie as tie
 
@@ -19,59 +20,66 @@ Inv-loop image scratch g per n d₀ b₀ k₀ d b k =
 abbrev μ-loop : tie.MeasureT-loop
 μ-loop image scratch g per n d₀ b₀ k₀ d b k = n - k
 
+per-block-requires : tie.Need-per-block-requires Inv-loop μ-loop
+per-block-requires c κs = let o = c .before .before .pre .0 .0 in (omega (arith, o .low, o .narrow), o .high)
+
 loop-holds : tie.Need-loop-holds Inv-loop μ-loop
 loop-holds c = (search needs, rw zero-mul (omega arith), counting-first _ _ _)
 
 -- the block that the loop has come to
-here : (c : tie.In-loop Inv-loop μ-loop) → (c .before .loop .b < c .before .before .before .before .before .args .g .blocks) × (c .before .loop .k ≡ c .before .loop .b * (c .before .before .power .result / 2))
+here : (c : tie.In-loop Inv-loop μ-loop) → (c .before .loop .b < c .before .before .before .before .before .args .g .blocks) × (c .before .loop .k ≡ c .before .loop .b * (c .before .before .per-block .result))
 here c =
-    let t = c .before in
-    let p = t .before in
-    let b = p .before .before .before in
-    at-block (b .pre .0) (p .power .result) (p .power .ensures .0) (t .loop .b) (t .loop .k) (rw (b .pre .1) at (t .loop .inv .1)) (rw (b .pre .1) at (c .loop-test .taken))
+    let t = c .before .loop in
+    let p = c .before .before .per-block in
+    let b = c .before .before .before .before .before in
+    at-block (b .pre .0 .0) (p .result) (p .ensures) (t .b) (t .k) (rw (b .pre .0 .1) at (t .inv .1)) (rw (b .pre .0 .1) at (c .loop-test .taken))
 
 block-at-requires : tie.Need-block-at-requires Inv-loop μ-loop
-block-at-requires c κs = (c .before .before .before .before .before .pre .0, here c .0)
+block-at-requires c κs = (c .before .before .before .before .before .pre .0 .0, here c .0)
 
 judge-block-requires : tie.Need-judge-block-requires Inv-loop μ-loop
 judge-block-requires c κs =
     let a = c .before .block-at in
     let i = c .before .before in
-    let t = i .before in
-    let p = t .before in
-    let b = p .before .before .before in
-    let o = b .pre .0 in
+    let t = c .before .before .before .loop in
+    let p = c .before .before .before .before .per-block in
+    let b = c .before .before .before .before .before .before .before in
+    let o = b .pre .0 .0 in
     let g = b .args .g in
-    let s = now (b .args .image) in
-    let e = p .power .ensures .0 in (
-      record {
-        inside = omega (arith, a .ensures .1, e, c .lesser .ensures);
-        stands = λ j k. rw (here i .1) (block-stands s (p .power .result / 2) (t .loop .b) j (a .result) (per-is o (p .power .result) e) (a .ensures .0) (omega (arith, c .lesser .ensures)));
-      },
-      ((omega (arith, c .lesser .ensures), omega (arith, b .pre .1, o .short, few-clusters (length s) (g .clusters) (g .bits) (o .whole))), t .loop .inv .2),
+    let s = now (b .args .image) in (
+      (
+        block-packed o (p .result) (p .ensures) (t .b) (t .k) (c .lesser .result) (a .result) (here i .1) (omega (arith, c .lesser .ensures)) (here i .0) (a .ensures .0) (a .ensures .1),
+        ((omega (arith, c .lesser .ensures), omega (arith, b .pre .0 .1, o .short, few-clusters (length s) (g .clusters) (g .bits) (o .whole))), t .inv .2),
+      ),
+      b .pre .1,
     )
 
+returns : tie.Need-returns Inv-loop μ-loop
+returns c = judged-on (c .before .before .judge-block .ensures) (c .if1 .taken) (c .before .before .before .before .before .before .before .before .before .before .args .g .clusters)
+
+add-k : tie.Need-add-k Inv-loop μ-loop
+add-k c = omega (arith, c .before .before .before .lesser .ensures)
+
 add-b : tie.Need-add-b Inv-loop μ-loop
-add-b c = let i = c .before .before .before in omega (arith, here i .0, i .before .before .before .before .before .pre .0 .blocks-read)
+add-b c = omega (arith, here (c .before .before .before .before .before) .0, c .before .before .before .before .before .before .before .before .before .before .pre .0 .0 .blocks-read)
 
 loop-less : tie.Need-loop-less Inv-loop μ-loop
 loop-less c =
-    let p = c .before .before .before .before .before in
-    omega (arith, c .before .lesser .ensures, some-per (p .before .before .before .pre .0) (p .power .result) (p .power .ensures .0))
+    let p = c .before .before .before .before .before .before .before .per-block in
+    omega (arith, c .before .before .before .lesser .ensures, some-per (c .before .before .before .before .before .before .before .before .before .before .pre .0 .0) (p .result) (p .ensures))
 
 loop-again : tie.Need-loop-again Inv-loop μ-loop
 loop-again c =
-    let l = c .before in
-    let i = l .before .before in
-    let t = i .before in
-    (omega (arith, l .lesser .ensures), next-block (t .loop .b) _ _ (t .loop .k) (l .lesser .result) (t .loop .inv .1) (i .loop-test .taken) (l .lesser .ensures), c .judge-block .ensures)
+    let l = c .before .before .before .lesser in
+    let t = c .before .before .before .before .before .before .loop in
+    (omega (arith, l .ensures), next-block (t .b) _ _ (t .k) (l .result) (t .inv .1) (c .before .before .before .before .before .loop-test .taken) (l .ensures), c .before .before .judge-block .ensures .none (c .if1 .left))
 
-returns : tie.Need-returns Inv-loop μ-loop
-returns c =
-    let t = c .before in
-    let b = t .before .before .before .before in
-    let e : t .loop .k ≡ b .args .g .clusters = omega (arith, b .pre .1) in
-    rw e at (t .loop .inv .2)
+returns-2 : tie.Need-returns-2 Inv-loop μ-loop
+returns-2 c =
+    let t = c .before .loop in
+    let b = c .before .before .before .before .before in
+    let e : t .k ≡ b .args .g .clusters = omega (arith, b .pre .0 .1) in
+    judged-all (now (b .args .image)) (now (b .args .scratch)) (rw e at (t .inv .2))
 
 pub judge-blocks-spec : {M : Type 1} → statement M
 judge-blocks-spec =
@@ -79,14 +87,15 @@ judge-blocks-spec =
     (tie.spec
     Inv-loop
     μ-loop
-    (search needs)
+    per-block-requires
     loop-holds
     block-at-requires
     (search needs)
     (search needs)
     judge-block-requires
-    (search needs)
+    returns
+    add-k
     add-b
     loop-less
     loop-again
-    returns)
+    returns-2)

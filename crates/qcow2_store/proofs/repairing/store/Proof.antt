@@ -6,7 +6,7 @@ use Rattle.qcow2_spec.specs.References.{figuresOf}
 use Rattle.qcow2_spec.specs.Check.{repairUnits}
 use Rattle.qcow2_store.proofs.Clears.{within, clear-first}
 use Rattle.qcow2_store.proofs.Midway.{refs-long}
-use Rattle.qcow2_store.proofs.Repairs.{cleared-kept, laid-kept, mended}
+use Rattle.qcow2_store.proofs.Repairs.{cleared-kept, ones-in, laid-kept, mended}
 use Rattle.qcow2_store.proofs.repairing.store.Statement.{statement}
 use Rattle.qcow2_store.proofs.repairing.store.Tie as tie
 
@@ -17,8 +17,10 @@ repair-requires : tie.Need-repair-requires
 repair-requires c κs =
     let s = c .before .before .before .before .before .before .before in
     let a = s .args in
-    let k = cleared-kept (now (a .image)) _ (a .allowance) (s .pre .opened .long) (c .before .before .before .clear .ensures .1) in
-    (laid-kept (a .g) (now (a .image)) (now (a .refs)) (s .pre) _ k, omega (arith, refs-long (now (a .image)) (now (a .refs)) (s .pre .figures), s .pre .opened .is-clusters))
+    let k = cleared-kept (now (a .image)) _ (a .allowance) (s .pre .opened .long) (c .before .before .before .clear .ensures .1) in (
+      (laid-kept (a .g) (now (a .image)) (now (a .refs)) (s .pre) _ k, omega (arith, refs-long (now (a .image)) (now (a .refs)) (s .pre .figures), s .pre .opened .is-clusters)),
+      ones-in (a .g) (now (a .image)) (now (a .refs)) (s .pre),
+    )
 
 whole-end-requires : tie.Need-whole-end-requires
 whole-end-requires c κs = (omega (arith, c .before .before .before .before .before .before .clear .ensures .0), within _ _ _ _ _ (c .before .before .repair .ensures))

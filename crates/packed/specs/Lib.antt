@@ -1,0 +1,4 @@
+pub mod Holds
+pub mod Packed
+pub mod Lanes
+pub mod Filled
