@@ -14,14 +14,14 @@
  *     judges the header afresh and accepts any bytes whatever.
  *   - out, data, scratch: bytes of the caller, with their length.
  *   - rows: numbers of 64 bits of the caller, with how many there are.
- *   - host, units, first, second, count: one number each, valid only where the
- *     call's description says that it is given. Set it before the call if you
- *     want to read it after any answer.
+ *   - host, units, first, second, count: one number each, stored by every call
+ *     that takes it, whatever it answers. What it is after each answer stands at
+ *     the call; what it was before is not looked at.
  *
  *   A pointer must not be NULL, also where its length is 0, and has to be good
- *   for its length. A run that a call writes to must not overlap any other run
- *   of that call. No alignment is asked of bytes. Lengths are at most
- *   PTRDIFF_MAX.
+ *   for its length. What a call writes to, bytes, rows or a number, must not
+ *   overlap anything else that the call is lent. Bytes need no alignment, numbers
+ *   that of uint64_t. Lengths are at most PTRDIFF_MAX.
  *
  * Words
  *   C is the cluster size, 2 to the power cluster_bits; N = n / C the clusters
@@ -36,11 +36,12 @@
  *
  * Answers
  *   0 is done: finished, sound, listed, or a host offset, as the call has it.
- *   1 to 999 is a refusal: no lent byte was changed, but for QCOW2_DAMAGED_IMAGE
- *   (17), which fills the scratch as the check does. 1001 and up are the other
- *   answers. The header's numbers are tried first, in the order 1 to 8, 18, 9,
- *   10, then 15 or 11, then 12 and 13 on the way through the tables, then 14 or
- *   16.
+ *   1 to 999 is a refusal: the bytes of image, out and scratch and the rows are as
+ *   they were, but for QCOW2_DAMAGED_IMAGE (17), which fills the scratch as the
+ *   check does; and each of *host, *units, *first, *second and *count that the
+ *   call takes is 0. 1001 and up are the other answers. The header's numbers are
+ *   tried first, in the order 1 to 8, 18, 9, 10, then 15 or 11, then 12 and 13 on
+ *   the way through the tables, then 14 or 16.
  */
 #ifndef QCOW2_CORE_H
 #define QCOW2_CORE_H
@@ -125,8 +126,8 @@ extern "C" {
 
 /*
  * Where one guest offset lies. QCOW2_DONE gives its place in the image in *host;
- * QCOW2_ZEROS and QCOW2_ABSENT say that there is none; else 1 to 13 or 18. An
- * offset at or past size is 11.
+ * QCOW2_ZEROS and QCOW2_ABSENT say that there is none; else 1 to 13 or 18. *host
+ * is 0 for every other answer than QCOW2_DONE. An offset at or past size is 11.
  */
 uint32_t qcow2_translate(const uint8_t *image, size_t n, uint64_t offset, uint64_t *host);
 
@@ -159,7 +160,8 @@ size_t qcow2_lookup(const uint8_t *image, size_t n, uint64_t offset);
  * QCOW2_DONE: *count runs are listed, m / 3 at most (m numbers are lent), one
  * after the other; the rest of rows is as it was. Where their lengths fall short
  * of len, call again from there on. Else 1 to 11 or 18, *count is 0, and rows
- * are as they were. Length 0 at or before the disk's end is done with no run.
+ * are as they were. Length 0 at or before the disk's end is done with no run, and
+ * so is m below 3: *count is 0.
  */
 uint32_t qcow2_runs(const uint8_t *image, size_t n, uint64_t offset, uint64_t len, uint64_t *rows,
                     size_t m, uint64_t *count);
@@ -167,11 +169,15 @@ uint32_t qcow2_runs(const uint8_t *image, size_t n, uint64_t offset, uint64_t le
 /* ---- Storing -------------------------------------------------------------
  *
  * Each call has a list of units, worked out from the image as it was on entry,
- * and makes the first of them, as many as allowance lets it. QCOW2_DONE: the
- * whole list was made; QCOW2_STOPPED: the allowance was spent before its end.
- * Both give the units made in *units. UINT64_MAX as allowance never stops.
- * To cut a call after u units is to leave the image as a power cut would. A
- * stopped call is not to be continued: call again, and a new list is made.
+ * and makes the first of them, as many as allowance lets it.
+ *
+ *   QCOW2_DONE     the whole list was made; *units: its length, 0 if it is empty
+ *   QCOW2_STOPPED  the allowance was spent before its end; *units: the allowance
+ *   a refusal      nothing was made; *units: 0
+ *
+ * UINT64_MAX as allowance never stops. To cut a call after u units is to leave
+ * the image as a power cut would. A stopped call is not to be continued: call
+ * again, and a new list is made.
  *
  * The autoclear field is bytes 88 to 95 of a version 3 image. Where it is not
  * zero, a list that is not empty has one unit more, its first: the field is
@@ -216,19 +222,23 @@ uint32_t qcow2_repair(uint8_t *image, size_t n, uint8_t *scratch, size_t m, uint
  * bytes, at least N. Unless refused (1 to 10, 15, 18), scratch[0..N] ends as
  * the references of each cluster, with 2 for two or more; the rest is as it was.
  *
- *   QCOW2_DONE    sound
+ *   QCOW2_DONE    sound; *first: 0
  *   QCOW2_LEAKS   *first: number of clusters whose count is too high
  *   QCOW2_BAD_L1  *first: L1 index of the first bad entry
  *   QCOW2_BAD_L2  *first, *second: L1 and L2 index of the first bad entry
  *   QCOW2_SHARED  *first: the lowest cluster with two references or more
  *   QCOW2_SHORT   *first: the lowest cluster whose count is too low
+ *   a refusal     *first: 0
+ *
+ * *second is 0 for every other answer than QCOW2_BAD_L2.
  */
 uint32_t qcow2_check(const uint8_t *image, size_t n, uint8_t *scratch, size_t m, uint64_t *first,
                      uint64_t *second);
 
 /*
- * A cluster's stored count less the scratch's figure, from -2 to 65,535, where it
- * is cut off. Below zero the cluster is short, above zero it leaks.
+ * A cluster's stored count less the scratch's figure, and 65,535 where it is
+ * more. The check's figures are 0 to 2, so it is -2 or more with them. Below zero
+ * the cluster is short, above zero it leaks.
  */
 int32_t qcow2_difference(uint64_t stored, uint8_t figure);
 

@@ -71,8 +71,7 @@ static uint64_t free_clusters(void)
 
 static uint32_t check(uint64_t *first)
 {
-    uint64_t second = 0;
-    *first = 0;
+    uint64_t second;
     return qcow2_check(image, LENGTH, scratch, CLUSTERS, first, &second);
 }
 
@@ -129,18 +128,28 @@ static void autoclear(void)
     expect("  units", units, 4);
 }
 
+/* A refusal leaves the lent bytes and rows alone and sets each number to 0. */
 static void refusals(void)
 {
-    uint64_t units = 0, first = 0, second = 0;
+    uint64_t host = 7, count = 7, units = 7, first = 7, second = 7, rows[3] = {7, 7, 7};
     uint8_t out = 0xC3, before[LENGTH];
     memcpy(before, image, LENGTH);
+    expect("translate the disk's end: refused", qcow2_translate(image, LENGTH, 65536, &host),
+           QCOW2_WRONG_RANGE);
+    expect("  host offset", host, 0);
     expect("read past the disk's end: refused", qcow2_read(image, LENGTH, 65536, &out, 1),
            QCOW2_WRONG_RANGE);
     expect("  the output is as it was", out, 0xC3);
+    expect("runs past the disk's end: refused",
+           qcow2_runs(image, LENGTH, 65536, 1, rows, 3, &count), QCOW2_WRONG_RANGE);
+    expect("  runs", count, 0);
+    expect("  the rows are as they were", rows[0] == 7 && rows[1] == 7 && rows[2] == 7, 1);
     expect("write over a cluster's end: refused", write_text(510, "abc", UINT64_MAX, &units),
            QCOW2_WRONG_RANGE);
+    expect("  units", units, 0);
     expect("check with a short scratch: refused",
            qcow2_check(image, LENGTH, scratch, CLUSTERS - 1, &first, &second), QCOW2_SHORT_SCRATCH);
+    expect("  first and second", first | second, 0);
     expect("  the image is as it was", memcmp(before, image, LENGTH) == 0, 1);
     store(100, 112, 4);
     expect("header_length 112: refused", check(&first), QCOW2_NOT_SUPPORTED);
@@ -150,11 +159,12 @@ static void refusals(void)
 
 static void discard(void)
 {
-    uint64_t units = 0, first = 0, host = 0;
+    uint64_t units = 0, first = 0, host = 7;
     expect("discard guest cluster 65: done", qcow2_discard(image, LENGTH, 65, UINT64_MAX, &units),
            QCOW2_DONE);
     expect("  units", units, 2);
     expect("translate: not allocated", qcow2_translate(image, LENGTH, 33285, &host), QCOW2_ABSENT);
+    expect("  host offset", host, 0);
     expect("check: sound", check(&first), QCOW2_DONE);
     expect("  free clusters", free_clusters(), 11);
     expect("a count of 0 with two references is short by", (uint64_t)-qcow2_difference(0, 2), 2);

@@ -9,7 +9,7 @@ use crate::bench::{timed, Bench, Buffers};
 
 /// Shorter images, for the growth.
 const LENGTHS: [usize; 2] = [LENGTH / 4, LENGTH / 2];
-const LAYOUTS: [(Layout, &str); 2] =
+pub const LAYOUTS: [(Layout, &str); 2] =
     [(Layout::Rising, "in order"), (Layout::Scattered, "scattered")];
 const TABLES: usize = 900;
 

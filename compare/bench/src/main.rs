@@ -1,10 +1,11 @@
 //! Times the proved core and the plain implementation side by side and prints
-//! tables of ratios. An argument chooses one family of cases: check, free,
-//! read, map, store, long or widths.
+//! tables of ratios. An argument chooses one family of cases: check, short,
+//! shared, free, read, map, store, long or widths.
 #![forbid(unsafe_code)]
 
 mod bench;
 mod check;
+mod damaged;
 mod free;
 mod long;
 mod map;
@@ -14,8 +15,10 @@ mod widths;
 
 use bench::Bench;
 
-const FAMILIES: [(&str, fn(&Bench)); 7] = [
+const FAMILIES: [(&str, fn(&Bench)); 9] = [
     ("check", check::run),
+    ("short", damaged::short),
+    ("shared", damaged::shared),
     ("free", free::run),
     ("read", read::run),
     ("map", map::run),

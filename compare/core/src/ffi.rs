@@ -1,6 +1,6 @@
 //! The C interface of `libqcow2_c.a`. Each call answers 0 for done, 1 to 999
-//! for a refusal, or one of the codes below; nothing is allocated and nothing
-//! global is touched.
+//! for a refusal, or one of the codes below, and stores each number that it is
+//! lent, 0 for a refusal; nothing is allocated and nothing global is touched.
 
 pub const STOPPED: u32 = 1001;
 pub const LEAKS: u32 = 1004;

@@ -6,6 +6,8 @@
 //! the out values are locals.
 
 mod ffi;
+#[cfg(test)]
+mod stored;
 
 pub use answers::{Found, Outcome, Run, Verdict};
 

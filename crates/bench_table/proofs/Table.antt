@@ -71,7 +71,7 @@ quick-full a b c d e x y z =
 quick-edges : (a b c d e x y z : ℕ) → Edges quick (a ∷ b ∷ c ∷ d ∷ e ∷ []) x y z
 unfolding computing
 quick-edges a b c d e x y z =
-    record { read-none = refl; read-one = refl; write-two = refl; write-three = refl }
+    record { read-none = refl; read-one = refl; read-past = refl; write-two = refl; write-three = refl }
 
 quick-cleared : (a b c d e x y z : ℕ) → Cleared quick (a ∷ b ∷ c ∷ d ∷ e ∷ []) x y z
 unfolding computing
@@ -144,7 +144,7 @@ starred a b c d e x y z =
 
 pub headers : Headers
 unfolding computing
-headers = record { accepted = refl; size = refl; sectors = refl; whole-sectors = refl; rows = refl; rows-past = refl; bits-8 = refl; bits-22 = refl; bits-16 = refl; bits-17 = refl; bits-21 = refl; short = refl; odd = refl }
+headers = record { accepted = refl; shortest = refl; size = refl; sectors = refl; whole-sectors = refl; rows = refl; rows-past = refl; bits-8 = refl; bits-22 = refl; bits-16 = refl; bits-17 = refl; bits-21 = refl; short = refl; odd = refl }
 
 -- ---- demand 3 speaks of the bench image
 each-byte : (l : List ℕ) → all (λ b. ltb b 256) l ≡ true → (i : ℕ) → ltb (getD l i 0) 256 ≡ true

@@ -82,6 +82,7 @@ pub record Full (store : Plan → ℕ → List ℕ → List ℕ) (five : List �
 pub record Edges (store : Plan → ℕ → List ℕ → List ℕ) (five : List ℕ) (x y z : ℕ) : Type 0 where
   pub read-none : readNumber bench 65536 0 ≡ 0
   pub read-one : readNumber bench 65536 1 ≡ 11
+  pub read-past : readNumber bench 65537 0 ≡ 11
   pub write-two : planNumber (writePlan bench 510 (x ∷ y ∷ [])) ≡ 0
   pub write-three : planNumber (writePlan bench 510 (x ∷ y ∷ z ∷ [])) ≡ 11
 
@@ -164,6 +165,7 @@ pub record Starred (store : Plan → ℕ → List ℕ → List ℕ) (five : List
 -- the lines on the header
 pub record Headers : Type 0 where
   pub accepted : judge bench ≡ 0
+  pub shortest : judge (take 512 bench) ≡ 9
   pub size : judge (benchWith 9 65537 2) ≡ 8
   pub sectors : judge (benchWith 9 65537 3) ≡ 18
   pub whole-sectors : judge (benchWith 9 66048 3) ≡ 0

@@ -12,24 +12,24 @@ use Rattle.choice.specs.Pick.{if_then_else_, first, count}
 use Rattle.choice.proofs.Tests.{if-yes, if-no, two-ways}
 
 -- where nothing passes
-pub none-first : (p : ℕ → Bool) (i k : ℕ) → ((x : ℕ) → i ≤ x → x < i + k → p x ≡ false) → first p i k ≡ i + k
-none-first p i zero h = omega arith
-none-first p i (suc k) h = if-no (p i) i _ (h i (le-refl i) (omega arith)) ∙ none-first p (suc i) k (λ x l m. h x (omega arith) (omega arith)) ∙ omega arith
+pub first-false : (p : ℕ → Bool) (i k : ℕ) → ((x : ℕ) → i ≤ x → x < i + k → p x ≡ false) → first p i k ≡ i + k
+first-false p i zero h = omega arith
+first-false p i (suc k) h = if-no (p i) i _ (h i (le-refl i) (omega arith)) ∙ first-false p (suc i) k (λ x l m. h x (omega arith) (omega arith)) ∙ omega arith
 
-pub none-counted : (p : ℕ → Bool) (i k : ℕ) → count p i k ≡ 0 → (x : ℕ) → i ≤ x → x < i + k → p x ≡ false
-none-counted p i zero h x l m = absurd (omega arith)
-none-counted p i (suc k) h x l m = go (two-ways (p i)) (ℕ-discrete i x) (λ d. none-counted p (suc i) k (omega arith) x (omega arith) (omega arith))
+pub count-zero : (p : ℕ → Bool) (i k : ℕ) → count p i k ≡ 0 → (x : ℕ) → i ≤ x → x < i + k → p x ≡ false
+count-zero p i zero h x l m = absurd (omega arith)
+count-zero p i (suc k) h x l m = go (two-ways (p i)) (ℕ-discrete i x) (λ d. count-zero p (suc i) k (omega arith) x (omega arith) (omega arith))
   where
     go : (p i ≡ true) ⊎ (p i ≡ false) → Dec (i ≡ x) → (i ≢ x → p x ≡ false) → p x ≡ false
     go (inl e) d r = let q : _≡_ {A = ℕ} (if p i then 1 else 0) 1 = if-yes (p i) 1 0 e in absurd (omega arith)
     go (inr e) (yes d) r = rw d at e
     go (inr e) (no d) r = r d
 
-pub none-count : (p : ℕ → Bool) (i k : ℕ) → ((x : ℕ) → i ≤ x → x < i + k → p x ≡ false) → count p i k ≡ 0
-none-count p i zero h = refl
-none-count p i (suc k) h =
+pub count-false : (p : ℕ → Bool) (i k : ℕ) → ((x : ℕ) → i ≤ x → x < i + k → p x ≡ false) → count p i k ≡ 0
+count-false p i zero h = refl
+count-false p i (suc k) h =
     let q : _≡_ {A = ℕ} (if p i then 1 else 0) 0 = if-no (p i) 1 0 (h i (le-refl i) (omega arith)) in
-    omega (arith, none-count p (suc i) k (λ x l m. h x (omega arith) (omega arith)))
+    omega (arith, count-false p (suc i) k (λ x l m. h x (omega arith) (omega arith)))
 
 module _ (p : ℕ → Bool) where
   -- the first that passes, and those after it

@@ -38,13 +38,13 @@ first-split p i (suc m) n = rw (suc-add, add-suc, ← suc-add) (go (first-split 
     go r false = r
 
 -- a search of the numbers below n, of which m from i on were searched
-pub search-hit : (p : ℕ → Bool) (i m n : ℕ) → i + m ≤ n → first p i m < i + m → first p i (n - i) ≡ first p i m
-search-hit p i m n h l =
+pub first-hit : (p : ℕ → Bool) (i m n : ℕ) → i + m ≤ n → first p i m < i + m → first p i (n - i) ≡ first p i m
+first-hit p i m n h l =
     let e : n - i ≡ m + (n - (i + m)) = omega arith in
     rw (e, first-split p i m (n - (i + m)), lt-ltb (first p i m) (i + m) l)
 
-pub search-miss : (p : ℕ → Bool) (i m n : ℕ) → i + m ≤ n → i + m ≤ first p i m → first p i (n - i) ≡ first p (i + m) (n - (i + m))
-search-miss p i m n h l =
+pub first-miss : (p : ℕ → Bool) (i m n : ℕ) → i + m ≤ n → i + m ≤ first p i m → first p i (n - i) ≡ first p (i + m) (n - (i + m))
+first-miss p i m n h l =
     let e : n - i ≡ m + (n - (i + m)) = omega arith in
     rw (e, first-split p i m (n - (i + m)), le-ltb (first p i m) (i + m) l)
 
@@ -53,9 +53,9 @@ abbrev pub Agree : (p q : ℕ → Bool) (i j m : ℕ) → Type 0
 Agree p q i j m = (d : ℕ) → d < m → p (i + d) ≡ q (j + d)
 
 -- the run, by either test
-pub shift : (p q : ℕ → Bool) (i j m : ℕ) → Agree p q i j m → first p i m + j ≡ i + first q j m
-shift p q i j zero a = refl
-shift p q i j (suc m) a = go (shift p q (suc i) (suc j) m next) (q j) refl
+pub first-shift : (p q : ℕ → Bool) (i j m : ℕ) → Agree p q i j m → first p i m + j ≡ i + first q j m
+first-shift p q i j zero a = refl
+first-shift p q i j (suc m) a = go (first-shift p q (suc i) (suc j) m next) (q j) refl
   where
     here : p i ≡ q j
     here = rw (add-zero, add-zero) at (a 0 (omega arith))
@@ -69,9 +69,9 @@ shift p q i j (suc m) a = go (shift p q (suc i) (suc j) m next) (q j) refl
     go r false e = rw (here, e) (omega arith)
 
 -- a search that found none
-pub none-found : (p : ℕ → Bool) (i n k : ℕ) → i + n ≤ first p i n → i ≤ k → k < i + n → p k ≡ false
-none-found p i zero k h a b = absurd (omega arith)
-none-found p i (suc n) k h a b = go (λ q r. none-found p (suc i) n k q r (omega arith)) (p i) refl
+pub first-passed : (p : ℕ → Bool) (i n k : ℕ) → i + n ≤ first p i n → i ≤ k → k < i + n → p k ≡ false
+first-passed p i zero k h a b = absurd (omega arith)
+first-passed p i (suc n) k h a b = go (λ q r. first-passed p (suc i) n k q r (omega arith)) (p i) refl
   where
     go : (suc i + n ≤ first p (suc i) n → suc i ≤ k → p k ≡ false) → (t : Bool) → p i ≡ t → p k ≡ false
     go r true e = absurd (let q : i + suc n ≤ i = rw e at h in omega arith)

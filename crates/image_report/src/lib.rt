@@ -34,7 +34,7 @@ fn sizes(fd: i32, g: Geometry) -> bool
     field(fd, power::power(g.bits))
         && field(fd, g.clusters as u64)
         && field(fd, g.size)
-        && field(fd, g.rows as u64)
+        && field(fd, g.l1size as u64)
 }
 
 fn image_line(fd: i32, g: Geometry) -> bool
@@ -90,7 +90,7 @@ fn verdict_line(fd: i32, v: Verdict) -> bool {
 fn accepted(fd: i32, image: &[u8], g: Geometry, v: Verdict) -> bool
     requires { ⌜ Opened g (now image) ⌝ }
 {
-    let free = qcow2_check::free_clusters(image, g);
+    let free = qcow2_free::number::free_clusters(image, g);
     image_line(fd, g) && clusters_line(fd, g.clusters - free, free, v) && verdict_line(fd, v)
 }
 

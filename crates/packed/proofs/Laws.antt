@@ -4,15 +4,29 @@ use native.Mathlib.Nat.{mul-le-mul-left, mul-le-mul-right, sub-zero, zero-add, a
 use native.Mathlib.Omega.{arith}
 use mathlib.Core.Path.{_≡_, refl}
 use mathlib.Core.Bool.{Bool, true, false, _||_}
-use lib.Dec.{ltb}
+use lib.Dec.{eqb, ltb}
 use lib.Pow.{pow-pos}
-use borrow.Author.Tests.{lt-ltb, le-ltb, ltb-true}
+use borrow.Author.Tests.{lt-ltb, le-ltb, ltb-true, eq-eqb, ne-eqb, eqb-true, eqb-false}
 use Rattle.choice.specs.Pick.{if_then_else_, first, count}
 use Rattle.choice.proofs.Searches.{count-turns}
 use Rattle.choice.proofs.Runs.{first-split}
 use Rattle.widths.specs.Width.{Inside}
 use Rattle.widths.proofs.Cells.{inside-first}
 use Rattle.packed.specs.Packed.{Lie}
+
+-- one test for another
+pub eqb-same : (x f t g : ℕ) → (x ≡ f → t ≡ g) → (t ≡ g → x ≡ f) → eqb x f ≡ eqb t g
+eqb-same x f t g to from = go (eqb t g) refl
+  where
+    go : (b : Bool) → eqb t g ≡ b → eqb x f ≡ b
+    go true e = eq-eqb x f (from (eqb-true t g e))
+    go false e = ne-eqb x f (λ z. eqb-false t g e (to z))
+
+-- so many numbers more are counted
+pub count-split : (p : ℕ → Bool) (a b : ℕ) → count p 0 (a + b) ≡ count p 0 a + count p a b
+count-split p a b =
+    let e : a + b - a ≡ b = omega arith in
+    rw (sub-zero, zero-add, e) at (count-turns p 0 a (a + b) (omega arith))
 
 -- one number more is counted
 pub count-next : (p : ℕ → Bool) (j : ℕ) → count p 0 (j + 1) ≡ count p 0 j + (if p j then 1 else 0)

@@ -1,8 +1,5 @@
-pub mod Bytes
-pub mod Holding
+pub mod Parts
 pub mod Laws
+pub mod Each
 pub mod Turned
-pub mod Lanes
 pub mod Narrow
-pub mod Spread
-pub mod Filling

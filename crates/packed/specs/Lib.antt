@@ -1,4 +1,3 @@
-pub mod Holds
 pub mod Packed
 pub mod Lanes
-pub mod Filled
+pub mod Figures

@@ -15,8 +15,6 @@ use qcow2_spec::Listed;
 use qcow2_spec::Verdict;
 use units::Outcome;
 
-mod opened;
-
 // Where guest offset x lies: a host offset, zeros, not allocated, or a number from 1 to 13 or 18.
 pub fn translate(image: &[u8], x: u64) -> Found
     ensures { λ r. ⌜ r ≡ translation (now (image .entry)) x ⌝ }
@@ -35,7 +33,7 @@ pub fn read(image: &[u8], x: u64, out: &mut [u8]) -> u8
     let j = qcow2_header::judge(image);
     match j {
         Judged::Refused(k) => k,
-        Judged::Accepted(g) => qcow2_guest::reading::read_into(image, g, x, out),
+        Judged::Accepted(g) => qcow2_read::read_into(image, g, x, out),
     }
 }
 
@@ -47,7 +45,7 @@ pub fn lookup<'a>(image: &'a [u8], x: u64) -> &'a [u8]
     let j = qcow2_header::judge(image);
     match j {
         Judged::Refused(_) => &image[..0],
-        Judged::Accepted(g) => qcow2_guest::reading::part_in(image, g, x),
+        Judged::Accepted(g) => qcow2_read::part_in(image, g, x),
     }
 }
 
@@ -70,7 +68,7 @@ pub fn write(image: &mut [u8], x: u64, src: &[u8], allowance: usize) -> Outcome
     let j = qcow2_header::judge(image);
     match j {
         Judged::Refused(k) => Outcome::Refused(k),
-        Judged::Accepted(g) => opened::write(image, g, x, src, allowance),
+        Judged::Accepted(g) => qcow2_calls::write(image, g, x, src, allowance),
     }
 }
 
@@ -81,7 +79,7 @@ pub fn discard(image: &mut [u8], guest: u64, allowance: usize) -> Outcome
     let j = qcow2_header::judge(image);
     match j {
         Judged::Refused(k) => Outcome::Refused(k),
-        Judged::Accepted(g) => opened::discard(image, g, guest, allowance),
+        Judged::Accepted(g) => qcow2_calls::discard(image, g, guest, allowance),
     }
 }
 
@@ -92,7 +90,7 @@ pub fn check(image: &[u8], scratch: &mut [u8]) -> Verdict
     let j = qcow2_header::judge(image);
     match j {
         Judged::Refused(k) => Verdict::Refused(k),
-        Judged::Accepted(g) => opened::check(image, scratch, g),
+        Judged::Accepted(g) => qcow2_calls::check(image, scratch, g),
     }
 }
 
@@ -104,6 +102,6 @@ pub fn repair(image: &mut [u8], scratch: &mut [u8], allowance: usize) -> Outcome
     let j = qcow2_header::judge(image);
     match j {
         Judged::Refused(k) => Outcome::Refused(k),
-        Judged::Accepted(g) => opened::repair(image, scratch, g, allowance),
+        Judged::Accepted(g) => qcow2_calls::repair(image, scratch, g, allowance),
     }
 }

@@ -18,8 +18,8 @@ pub extern "C" fn qcow2_translate(image: &[u8], offset: u64, host: &mut u64) -> 
     ensures { λ r. ⌜ (r ≡ foundCode (translate (now (image .entry)) offset)) × (now (host .exit) ≡ foundHost (translate (now (image .entry)) offset)) ⌝ }
 {
     let f = qcow2::translate(image, offset);
-    *host = qcow2_runs::codes::found_host(f);
-    qcow2_runs::codes::found_code(f)
+    *host = qcow2_alike::codes::found_host(f);
+    qcow2_alike::codes::found_code(f)
 }
 
 #[no_mangle]
@@ -58,12 +58,12 @@ pub extern "C" fn qcow2_write(
     image: &mut [u8],
     offset: u64,
     src: &[u8],
-    allowance: usize,
+    allowance: u64,
     units: &mut u64,
 ) -> u32
     ensures { λ r. ⌜ ((r ≡ outcomeCode (outcome (writePlan (now (image .entry)) offset (now (src .entry))) allowance)) × (now (units .exit) ≡ outcomeUnits (outcome (writePlan (now (image .entry)) offset (now (src .entry))) allowance))) × (now (image .exit) ≡ after (writePlan (now (image .entry)) offset (now (src .entry))) allowance (now (image .entry))) ⌝ }
 {
-    let o = qcow2::write(image, offset, src, allowance);
+    let o = qcow2::write(image, offset, src, allowance as usize);
     *units = codes::outcome_units(o);
     codes::outcome_code(o)
 }
@@ -72,12 +72,12 @@ pub extern "C" fn qcow2_write(
 pub extern "C" fn qcow2_discard(
     image: &mut [u8],
     cluster: u64,
-    allowance: usize,
+    allowance: u64,
     units: &mut u64,
 ) -> u32
     ensures { λ r. ⌜ ((r ≡ outcomeCode (outcome (discardPlan (now (image .entry)) cluster) allowance)) × (now (units .exit) ≡ outcomeUnits (outcome (discardPlan (now (image .entry)) cluster) allowance))) × (now (image .exit) ≡ after (discardPlan (now (image .entry)) cluster) allowance (now (image .entry))) ⌝ }
 {
-    let o = qcow2::discard(image, cluster, allowance);
+    let o = qcow2::discard(image, cluster, allowance as usize);
     *units = codes::outcome_units(o);
     codes::outcome_code(o)
 }
@@ -86,12 +86,12 @@ pub extern "C" fn qcow2_discard(
 pub extern "C" fn qcow2_repair(
     image: &mut [u8],
     scratch: &mut [u8],
-    allowance: usize,
+    allowance: u64,
     units: &mut u64,
 ) -> u32
     ensures { λ r. ⌜ ((r ≡ outcomeCode (outcome (repairPlan (now (image .entry)) (length (now (scratch .entry)))) allowance)) × (now (units .exit) ≡ outcomeUnits (outcome (repairPlan (now (image .entry)) (length (now (scratch .entry)))) allowance))) × ((now (image .exit) ≡ after (repairPlan (now (image .entry)) (length (now (scratch .entry)))) allowance (now (image .entry))) × (now (scratch .exit) ≡ scratchLeft (now (image .entry)) (now (scratch .entry)))) ⌝ }
 {
-    let o = qcow2::repair(image, scratch, allowance);
+    let o = qcow2::repair(image, scratch, allowance as usize);
     *units = codes::outcome_units(o);
     codes::outcome_code(o)
 }

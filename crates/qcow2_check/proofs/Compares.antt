@@ -12,8 +12,8 @@ use lib.ListN.{length, getD, take, drop, length-take, List·getD-eq-default}
 use lib.Seq.{getD-take, getD-drop}
 use Rattle.choice.specs.Pick.{first, count}
 use Rattle.choice.proofs.Searches.{count-same}
-use Rattle.choice.proofs.Runs.{none-found}
-use Rattle.choice.proofs.Found.{none-counted}
+use Rattle.choice.proofs.Runs.{first-passed}
+use Rattle.choice.proofs.Found.{count-zero}
 use Rattle.widths.proofs.Cells.{number-part, inside-first}
 use Rattle.packed.specs.Packed.{packed, unlikeAt, underAt, Single}
 use Rattle.tally.specs.Tally.{twice}
@@ -21,8 +21,9 @@ use Rattle.tally.specs.declared.Counted.{Counted}
 use Rattle.tally.proofs.Counting.{counting-part}
 use Rattle.qcow2_spec.specs.Counts.{countOf}
 use Rattle.qcow2_spec.specs.Check.{short, over}
-use Rattle.qcow2_check.specs.Known.{Packed, Judging, Judged}
-use Rattle.qcow2_check.proofs.Walks.{length-part}
+use Rattle.qcow2_counts.specs.Blocks.{Packed}
+use Rattle.qcow2_check.specs.Known.{Judging, Judged}
+use Rattle.packed.proofs.Parts.{length-part}
 
 -- where no cluster is shared no figure is above 1
 pub all-single : (f : List ℕ) (a : ℕ) → a ≡ first (twice f) 0 (length f) → length f ≤ a → Single f
@@ -30,7 +31,7 @@ unfolding twice
 all-single f a e h i = go (ltb i (length f)) refl
   where
     go : (t : Bool) → ltb i (length f) ≡ t → getD f i 0 ≤ 1
-    go true l = ltb-false 1 (getD f i 0) (none-found (twice f) 0 (length f) i (omega (arith, e)) (omega arith) (omega (arith, ltb-true i (length f) l)))
+    go true l = ltb-false 1 (getD f i 0) (first-passed (twice f) 0 (length f) i (omega (arith, e)) (omega arith) (omega (arith, ltb-true i (length f) l)))
     go false l = let z : getD f i 0 ≡ 0 = List·getD-eq-default f 0 (ltb-false i (length f) l) in omega arith
 
 -- nor in a part
@@ -69,7 +70,7 @@ module _ (o : ℕ) (s f B F : List ℕ) (at base m C : ℕ) (b : Packed o s base
     enough : (j : ℕ) → j < m → getD f (base + j) 0 ≤ countOf s (base + j)
     unfolding underAt
     enough j h =
-        let v : getD F j 0 ≤ packed o B j = ltb-false _ _ (none-counted (underAt o B F) 0 m z j (omega arith) (omega arith)) in
+        let v : getD F j 0 ≤ packed o B j = ltb-false _ _ (count-zero (underAt o B F) 0 m z j (omega arith) (omega arith)) in
         omega (arith, v, stored-at j h, figure-at j h)
 
     none-short : (k : ℕ) → base ≤ k → k < base + m → short s f k ≡ false
@@ -83,9 +84,9 @@ module _ (o : ℕ) (s f B F : List ℕ) (at base m C : ℕ) (b : Packed o s base
     over-unlike = count-same (unlikeAt o B F) (over s f) 0 base m (λ j h. rw (zero-add, stored-at j h, figure-at j h) (differ _ _ (enough j h)))
 
   -- so the group is judged by how many counts differ
-  pub judged-whole : (c : Counted) (x y : ℕ) → base + m ≤ length f → Judging s f base c → x ≡ count (unlikeAt o B F) 0 (length F) → y ≡ count (underAt o B F) 0 (length F) → y ≡ 0
-      → Judged s f (base + m) (record { low = c .low; over = c .over + x })
-  judged-whole c x y h d e g z =
+  pub judging-whole : (c : Counted) (x y : ℕ) → base + m ≤ length f → Judging s f base c → x ≡ count (unlikeAt o B F) 0 (length F) → y ≡ count (underAt o B F) 0 (length F) → y ≡ 0
+      → Judging s f (base + m) (record { low = c .low; over = c .over + x })
+  judging-whole c x y h d e g z =
       let n : length F ≡ m = rw (hF, length-part f base m h) in
       let u : count (underAt o B F) 0 m ≡ 0 = rw n at (sym g ∙ z) in
-      judged-all s f (counting-part (short s f) (over s f) (length f) base m x c h d (none-short u) ((rw n at e) ∙ over-unlike u))
+      counting-part (short s f) (over s f) (length f) base m x c h d (none-short u) ((rw n at e) ∙ over-unlike u)

@@ -1,9 +1,4 @@
-pub mod Places
-pub mod Walks
-pub mod Plain
-pub mod Runs
-pub mod Stored
 pub mod Compares
-pub mod Fronts
-pub mod Naming
+pub mod Steps
 pub mod Verdicts
+pub mod Naming

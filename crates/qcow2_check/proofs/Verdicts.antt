@@ -1,18 +1,17 @@
 -- Laws of the verdict: by the counts where all entries are good, else by the first bad entry.
 -- Assumes nothing.
 use Prim.Native.Nat.{ℕ, suc}
-use mathlib.Core.Path.{_≡_, refl, sym, _∙_}
+use mathlib.Core.Path.{_≡_, refl}
 use mathlib.Core.Bool.{Bool, true, false, not, _&&_, _||_, true≢false}
 use mathlib.Core.List.{List, [], _∷_}
 use lib.Dec.{eqb, ltb}
-use lib.ListN.{length, replicate}
+use lib.ListN.{length}
 use Rattle.choice.specs.Pick.{if_then_else_, all, first, count}
 use Rattle.choice.proofs.Tests.{and-true}
-use Rattle.tally.specs.Tally.{bumpAll, joined, twice}
-use Rattle.tally.proofs.Laws.{bumpAll-append, tallied}
+use Rattle.tally.specs.Tally.{twice}
 use Rattle.qcow2_spec.specs.Header.{version, clusterSize, clusters}
 use Rattle.qcow2_spec.specs.Entries.{place, goodL1, goodL2}
-use Rattle.qcow2_spec.specs.References.{l1Entries, l2Entries, l1Refs, fixedRefs, references, figuresOf}
+use Rattle.qcow2_spec.specs.References.{l2Entries}
 use Rattle.qcow2_spec.specs.Check.{l2Verdict, entryVerdict, tableGood, entryGood, short, over, countsVerdict}
 use Rattle.qcow2_spec.specs.declared.Verdict.{Verdict}
 use Rattle.qcow2_spec.specs.declared.Verdict.the-variants.{Sound, Leaks, BadL1, BadL2, Shared, Short}
@@ -65,10 +64,3 @@ entry-some s i e next next′ h = go (goodL1 (clusterSize s) (length s) e) (eqb 
     go false t k = refl
     go true true k = absurd (true≢false k)
     go true false k = l2-some L i 0 (l2Entries s (place e)) next next′ k
-
--- the scratch once everything is counted
-pub all-counted : (s : List ℕ) (N : ℕ) → N ≡ clusters s → bumpAll (joined (l1Refs s) (l1Entries s)) (bumpAll (fixedRefs s) (replicate N 0)) ≡ figuresOf s
-unfolding figuresOf references
-all-counted s N e =
-    let Z : List ℕ = replicate N 0 in
-    sym (bumpAll-append (fixedRefs s) (joined (l1Refs s) (l1Entries s)) Z) ∙ rw (← e) (tallied _ N)

@@ -3,13 +3,14 @@
 use Prim.Native.Nat.{ℕ, _+_, _-_, _*_, _/_, _%_, _^_, _≤_, _<_}
 use native.Mathlib.Nat.{add-zero, div-lt-iff-lt-mul, div-add-mod', mod-lt, add-mul, one-mul, mul-le-mul-right}
 use native.Mathlib.Omega.{arith}
-use mathlib.Core.Path.{_≡_, refl, sym, ap, _∙_}
+use mathlib.Core.Path.{_≡_, refl, sym, _∙_}
 use mathlib.Core.Bool.{Bool, true, false}
 use mathlib.Core.List.{List}
 use borrow.Author.Tests.{eq-eqb, ne-eqb}
-use lib.ListN.{length, replicate, length-replicate, getD-replicate}
+use lib.ListN.{length, drop, replicate, length-drop, length-replicate, getD-replicate}
+use lib.Seq.{length-take-le}
 use Rattle.endian.specs.Big.{be64, part, splice}
-use Rattle.qcow2_spec.specs.Header.{clusterSize, perTable}
+use Rattle.qcow2_spec.specs.Header.{version, clusterSize, perTable}
 use Rattle.qcow2_spec.specs.Entries.{place, goodL1}
 use Rattle.qcow2_spec.specs.Guest.{l1Entry, l1EntryAt, entryWay, l2Way, way, wayGives, located, foundByte, guestByte, guestBytes}
 use Rattle.qcow2_spec.specs.Runs.{moved}
@@ -20,13 +21,11 @@ use Rattle.qcow2_spec.specs.declared.Found.the-variants.{Host, Zeros, Absent, R
 use Rattle.qcow2_spec.proofs.Facts.{Facts, facts, c-pos, e-pos}
 use Rattle.qcow2_spec.proofs.Refers.{placed1}
 use Rattle.qcow2_spec.proofs.Numbers.{part8}
-use Rattle.qcow2_spec.specs.declared.Way.{Way}
-use Rattle.qcow2_entry.specs.Plain.{plain}
-use Rattle.qcow2_entry.proofs.Plain.{plain-way, plain-gives, other-gives}
-use Rattle.qcow2_guest.specs.Rows.{Below, tableOf, rowLeft}
+use Rattle.qcow2_entry.specs.Plain.{plain, entryFound}
+use Rattle.qcow2_entry.proofs.Marked.{entry-way, found-plain, found-other}
+use Rattle.qcow2_guest.specs.Rows.{Below, Lent, tableOf, rowLeft}
 use Rattle.qcow2_guest.proofs.Numbers.{div-mono}
 use Rattle.qcow2_guest.proofs.Pieces.{same-cluster, written}
-use Rattle.qcow2_guest.proofs.Steps.{table-entry, located-at}
 
 -- ---- a later part
 pub below-from : (s : List ℕ) (t x n a m : ℕ) → a + m ≤ n → Below s t x n → Below s t (x + a) m
@@ -35,7 +34,22 @@ below-from s t x n a m h b = record { inside = b .inside; ways = λ i l. later i
     later : (i : ℕ) → i < m → way s ((x + a + i) / clusterSize s) ≡ l2Way s t ((x + a + i) / clusterSize s % perTable s)
     later i l = let e : x + a + i ≡ x + (a + i) = omega arith in rw e (b .ways (a + i) (omega arith))
 
--- ---- a piece whose L2 entry e is in the table at t
+pub lent-from : (s l : List ℕ) (x n a m : ℕ) → a + m ≤ n → Lent s l x n → Lent s l (x + a) m
+lent-from s l x n a m h b = record { whole = b .whole; finds = λ i k. later i k }
+  where
+    later : (i : ℕ) → i < m
+        → located s (x + a + i) ≡ entryFound (version s) (clusterSize s) (length s) (be64 l (8 * ((x + a + i) / clusterSize s % perTable s))) ((x + a + i) % clusterSize s)
+    later i k = let e : x + a + i ≡ x + (a + i) = omega arith in rw e (b .finds (a + i) (omega arith))
+
+-- ---- the table at t, lent as a part of the image
+below-lent : (s : List ℕ) (t x n C : ℕ) → C ≡ clusterSize s → Below s t x n → Lent s (part s t C) x n
+unfolding located l2Way
+below-lent s t x n C c b = record {
+  whole = length-take-le C (drop t s) (simp length-drop (omega (arith, c, b .inside))) ∙ c;
+  finds = λ i h. rw (b .ways i h, c) (entry-way _ _ _ _ _ _);
+}
+
+-- ---- a piece whose L2 entry e is in the lent table l
 no-host : (s : List ℕ) (f : Found) → ((k : ℕ) → f ≡ Host k → ⊥) → (j : ℕ) → foundByte s (moved f j) ≡ 0
 unfolding foundByte
 no-host s (Host h) n j = absurd (n h refl)
@@ -43,33 +57,23 @@ no-host s Zeros n j = refl
 no-host s Absent n j = refl
 no-host s (Refused k) n j = refl
 
-module _ (g : Geometry) (s : List ℕ) (o : Opened g s) (t x : ℕ) (b : Below s t x 1) (i e : ℕ) (p : i ≡ x / 2 ^ g .bits % 2 ^ (g .bits - 3)) where
-  inside : 8 * i + 8 ≤ clusterSize s
-  inside =
-      let l : i < perTable s = rw p (rw (o .is-per) (mod-lt _ (e-pos s (facts s (o .accepted))))) in
-      omega (arith, o .eight)
+module _ (g : Geometry) (s l : List ℕ) (o : Opened g s) (x : ℕ) (b : Lent s l x 1) (i e : ℕ) (p : i ≡ x / 2 ^ g .bits % 2 ^ (g .bits - 3)) (q : e ≡ be64 l (8 * i)) where
+  entry-found : located s x ≡ entryFound (version s) (2 ^ g .bits) (length s) e (x % 2 ^ g .bits)
+  entry-found = rw (q, p, o .is-cluster, o .is-per) (rw add-zero at (b .finds 0 (omega arith)))
 
-  pub entry-in : t + 8 * i + 8 ≤ length s
-  entry-in = omega (arith, b .inside, inside)
+  pub plain-found : plain (2 ^ g .bits) (length s) e ≡ true → located s x ≡ Host (e - 2 ^ 63 + x % 2 ^ g .bits)
+  plain-found h = entry-found ∙ found-plain (version s) (g .bits) (length s) e (x % 2 ^ g .bits) (o .low) (o .short) h
 
-  module _ (q : e ≡ be64 s (t + 8 * i)) where
-    way-at : way s (x / 2 ^ g .bits) ≡ entryWay (g .version) (2 ^ g .bits) (length s) (t + 8 * i) e
-    way-at =
-        let v : way s (x / 2 ^ g .bits) ≡ l2Way s t (x / 2 ^ g .bits % perTable s) = rw (o .is-cluster) (rw add-zero at (b .ways 0 (omega arith))) in
-        let d : e ≡ be64 (part s t (2 ^ g .bits)) (8 * i) = q ∙ sym (part8 s t (2 ^ g .bits) (8 * i) (rw (o .is-cluster) inside)) in
-        v ∙ sym (rw d (table-entry g s o t (x / 2 ^ g .bits) i p))
+  pub other-found : plain (2 ^ g .bits) (length s) e ≡ false → (j : ℕ) → foundByte s (moved (located s x) j) ≡ 0
+  other-found h = no-host s (located s x) (λ k y. found-other (version s) (2 ^ g .bits) (length s) e (x % 2 ^ g .bits) k h (sym entry-found ∙ y))
 
-    pub found : wayGives (entryWay (g .version) (2 ^ g .bits) (length s) (t + 8 * i) e) (x % 2 ^ g .bits) ≡ located s x
-    found = located-at g s o x (x / 2 ^ g .bits) (x % 2 ^ g .bits) _ refl refl way-at
-
-    pub plain-found : plain (2 ^ g .bits) (length s) e ≡ true → located s x ≡ Host (e - 2 ^ 63 + x % 2 ^ g .bits)
-    unfolding wayGives
-    plain-found h =
-        sym found ∙ ap (λ (w : Way). wayGives w (x % 2 ^ g .bits)) (plain-way (g .bits) (length s) e (o .low) (o .short) h (g .version) (t + 8 * i))
-        ∙ plain-gives (g .bits) (length s) e (o .low) (o .short) h (x % 2 ^ g .bits)
-
-    pub other-found : plain (2 ^ g .bits) (length s) e ≡ false → (j : ℕ) → foundByte s (moved (located s x) j) ≡ 0
-    other-found h = no-host s (located s x) (λ k y. other-gives (g .version) (2 ^ g .bits) (length s) (t + 8 * i) e (x % 2 ^ g .bits) k h (found ∙ y))
+-- ---- the same for the table at t
+module _ (g : Geometry) (s : List ℕ) (o : Opened g s) (t x : ℕ) (b : Below s t x 1) (i e : ℕ) (p : i ≡ x / 2 ^ g .bits % 2 ^ (g .bits - 3)) (q : e ≡ be64 s (t + 8 * i)) where
+  pub found : wayGives (entryWay (g .version) (2 ^ g .bits) (length s) (t + 8 * i) e) (x % 2 ^ g .bits) ≡ located s x
+  found =
+      let h : i < perTable s = rw p (rw (o .is-per) (mod-lt _ (e-pos s (facts s (o .accepted))))) in
+      let d : e ≡ be64 (part s t (2 ^ g .bits)) (8 * i) = q ∙ sym (part8 s t (2 ^ g .bits) (8 * i) (rw (o .is-cluster) (omega (arith, o .eight)))) in
+      entry-way _ _ _ _ _ _ ∙ rw (o .is-version) (sym (entry-found g s _ o x (below-lent s t x 1 (2 ^ g .bits) (o .is-cluster) b) i e p d))
 
 -- ---- bytes with one L1 entry
 -- x has its own L1 entry
@@ -137,14 +141,23 @@ module _ (g : Geometry) (s : List ℕ) (o : Opened g s) (x n : ℕ) (h : n ≤ r
   unfolding tableOf
   same-table i l = rw (same-row i l)
 
-  pub row-below : (tableOf s (x / 2 ^ g .bits) ≡ 0 → ⊥) → Below s (tableOf s (x / 2 ^ g .bits)) x n
-  row-below z =
-      let f = facts s (o .accepted) in
-      let y : tableOf s (x / clusterSize s) ≡ 0 → ⊥ = rw (o .is-cluster) at z in
-      rw (o .is-cluster) (record {
-        inside = table-way s f (x / clusterSize s) y .1;
-        ways = λ i l. rw (same-table i l) at (table-way s f ((x + i) / clusterSize s) (λ u. y (sym (same-table i l) ∙ u)) .0);
-      })
+  -- the L2 table at t, which is not 0
+  module _ (t : ℕ) (d : t ≡ tableOf s (x / 2 ^ g .bits)) (z : t ≡ 0 → ⊥) where
+    row-below : Below s t x n
+    row-below =
+        let f = facts s (o .accepted) in
+        let p : t ≡ tableOf s (x / clusterSize s) = rw (← o .is-cluster) d in
+        let y : tableOf s (x / clusterSize s) ≡ 0 → ⊥ = λ u. z (p ∙ u) in
+        rw p (record {
+          inside = table-way s f (x / clusterSize s) y .1;
+          ways = λ i l. rw (same-table i l) at (table-way s f ((x + i) / clusterSize s) (λ u. y (sym (same-table i l) ∙ u)) .0);
+        })
+
+    pub row-inside : t + 2 ^ g .bits ≤ length s
+    row-inside = rw (o .is-cluster) (row-below .inside)
+
+    pub row-lent : (m : ℕ) → m ≡ 2 ^ g .bits → Lent s (part s t m) x n
+    row-lent m e = below-lent s t x n m (e ∙ o .is-cluster) row-below
 
   pub row-blank : tableOf s (x / 2 ^ g .bits) ≡ 0 → (l : List ℕ) → length l ≡ n → splice l 0 (replicate (length l) 0) ≡ guestBytes s x (length l)
   unfolding guestByte located

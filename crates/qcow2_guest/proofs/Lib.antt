@@ -2,6 +2,4 @@ pub mod Ready
 pub mod Steps
 pub mod Numbers
 pub mod Pieces
-pub mod Filling
-pub mod Rows
 pub mod Bytes

@@ -20,12 +20,12 @@ use Rattle.qcow2_spec.proofs.Refers.{placed1}
 
 module _ (g : Geometry) (s : List ℕ) (o : Opened g s) where
   -- where the L1 entry of a guest cluster stands
-  pub row-in : (guest : ℕ) → guest / perTable s < l1Size s → g .l1 + 8 * (guest / 2 ^ (g .bits - 3)) + 8 ≤ length s
-  row-in guest h = rw (o .is-l1, o .is-per) (omega (arith, o .l1-fits))
+  pub row-in : (guest : ℕ) → guest / perTable s < l1Size s → g .l1at + 8 * (guest / 2 ^ (g .bits - 3)) + 8 ≤ length s
+  row-in guest h = rw (o .is-l1at, o .is-per) (omega (arith, o .l1-fits))
 
-  pub row-entry : (guest : ℕ) → be64 s (g .l1 + 8 * (guest / 2 ^ (g .bits - 3))) ≡ l1Entry s guest
+  pub row-entry : (guest : ℕ) → be64 s (g .l1at + 8 * (guest / 2 ^ (g .bits - 3))) ≡ l1Entry s guest
   unfolding l1Entry l1EntryAt
-  row-entry guest = rw (o .is-l1, o .is-per)
+  row-entry guest = rw (o .is-l1at, o .is-per)
 
   -- entry i of the L2 table at t, which is a part of the image
   pub table-entry : (t guest i : ℕ) → i ≡ guest % 2 ^ (g .bits - 3)

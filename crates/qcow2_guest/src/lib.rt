@@ -5,12 +5,10 @@ ghost use lib.ListN.{length};
 ghost use Rattle.qcow2_spec.specs.Header.{mostBits, clusterSize, diskSize, perTable, l1Size};
 ghost use Rattle.qcow2_spec.specs.Guest.{l1Entry, l2Way, way, located, translate};
 ghost use Rattle.qcow2_spec.specs.Opened.{Opened};
+ghost use Rattle.qcow2_guest.specs.Rows.{rowLeft};
 use qcow2_spec::Found;
 use qcow2_spec::Geometry;
 use qcow2_spec::Way;
-
-mod range;
-pub mod reading;
 
 // How much of what is left, from x on, comes before the next multiple of a power of two.
 pub fn piece(x: u64, left: usize, bits: u32) -> usize
@@ -21,13 +19,23 @@ pub fn piece(x: u64, left: usize, bits: u32) -> usize
     power::lesser(room as usize, left)
 }
 
+// How many of the bytes that are left have the L1 entry of x.
+pub fn row_left(x: u64, left: usize, bits: u32) -> usize
+    requires { ⌜ (3 ≤ bits) × (bits ≤ mostBits) ⌝ }
+    ensures { λ r. ⌜ r ≡ min (rowLeft (2 ^ bits) (2 ^ (bits - 3)) x) left ⌝ }
+{
+    let entries = power::power(bits - 3) - power::rest(power::quotient(x, bits), bits - 3);
+    let room = entries * power::power(bits) - power::rest(x, bits);
+    power::lesser(room as usize, left)
+}
+
 // The L1 entry of a guest cluster.
 pub fn l1_entry(image: &[u8], g: Geometry, guest: u64) -> u64
     requires { ⌜ (Opened g (now image)) × (guest / perTable (now image) < l1Size (now image)) ⌝ }
     ensures { λ r. ⌜ r ≡ l1Entry (now (image .entry)) guest ⌝ }
 {
     let i = power::quotient(guest, g.bits - 3) as usize;
-    endian::load64(image, g.l1 + 8 * i)
+    endian::load64(image, g.l1at + 8 * i)
 }
 
 // The way that ends in the L2 table at t, which is handed on as a part of the image.

@@ -92,16 +92,16 @@ tables-is g s e = rw e (regroup (not (eqb (l1At s % clusterSize s) 0)) (not (eqb
 
 -- the code's C is p
 pub table-told : (g : Geometry) (s : List ℕ) (p : ℕ) {r b : Bool} → g ≡ geometry s → p ≡ 2 ^ g .bits
-    → r ≡ goodTable (2 ^ g .bits) (length s) (g .blocks) (entries (g .span * (p / 8)) (take (length s - g .table) (drop (g .table) s)))
+    → r ≡ goodTable (2 ^ g .bits) (length s) (g .blocks) (entries (g .tableclusters * (p / 8)) (take (length s - g .tableat) (drop (g .tableat) s)))
     → r ≡ b → goodTable (clusterSize s) (length s) (blocks s) (table s) ≡ b
 unfolding geometry table perTable clusterSize
 table-told g s p e q f h = rw (part-rest, q, e) at (sym f ∙ h)
 
 -- tables that are well placed
-pub placed : (g : Geometry) (n : ℕ) → misplacedTables g n ≡ false → (g .table + g .span * 2 ^ g .bits ≤ n) × (g .blocks ≤ g .span * (2 ^ g .bits / 8))
+pub placed : (g : Geometry) (n : ℕ) → misplacedTables g n ≡ false → (g .tableat + g .tableclusters * 2 ^ g .bits ≤ n) × (g .blocks ≤ g .tableclusters * (2 ^ g .bits / 8))
 unfolding misplacedTables misplaced
 placed g n h =
-    let M : Bool = misplaced (2 ^ g .bits) n (g .table) (g .span * 2 ^ g .bits) in
-    let a = or-false (misplaced (2 ^ g .bits) n (g .l1) (8 * g .rows)) _ h in
+    let M : Bool = misplaced (2 ^ g .bits) n (g .tableat) (g .tableclusters * 2 ^ g .bits) in
+    let a = or-false (misplaced (2 ^ g .bits) n (g .l1at) (8 * g .l1size)) _ h in
     let b = or-false M _ (a .1) in
-    (ltb-false _ _ (or-false (not (eqb (g .table % 2 ^ g .bits) 0)) _ (b .0) .1), ltb-false _ _ (b .1))
+    (ltb-false _ _ (or-false (not (eqb (g .tableat % 2 ^ g .bits) 0)) _ (b .0) .1), ltb-false _ _ (b .1))

@@ -25,8 +25,9 @@ use Rattle.qcow2_entry.proofs.Marked.{entry-way}
 use Rattle.qcow2_guest.specs.Rows.{Below, rowLeft}
 use Rattle.qcow2_guest.proofs.Bytes.{below-from, found}
 use Rattle.qcow2_guest.proofs.Pieces.{same-rest, located-moved, host-in}
-use Rattle.qcow2_runs.specs.Going.{Goes, Ahead, Entries, entryGoes, entriesEnd}
-use Rattle.qcow2_runs.proofs.Entries.{end-low, end-high, end-on, end-off}
+use Rattle.qcow2_runs.specs.Going.{Goes, Ahead}
+use Rattle.qcow2_alike.specs.Alike.{Entries, entryGoes, entriesEnd}
+use Rattle.qcow2_alike.proofs.Entries.{end-low, end-high, end-on, end-off}
 
 moved-moved : (f : Found) (i j : ℕ) → moved (moved f i) j ≡ moved f (i + j)
 moved-moved (Host h) i j = ap Host (omega arith)

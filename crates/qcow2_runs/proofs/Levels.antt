@@ -35,9 +35,9 @@ module _ (g : Geometry) (s : List ℕ) (o : Opened g s) (guest e : ℕ) (q : e �
   unfolding rowOf goodL1 goodPlace place
   is-empty z = rw (← q, z)
 
-  pub is-table : plain (2 ^ g .bits) (length s) e ≡ true → Table (e - 2 ^ 63) ≡ rowOf s guest
+  pub is-tableat : plain (2 ^ g .bits) (length s) e ≡ true → Table (e - 2 ^ 63) ≡ rowOf s guest
   unfolding rowOf
-  is-table h =
+  is-tableat h =
       let p = plain-row (g .bits) (length s) e (o .low) (o .short) h in
       let f : place e ≡ 0 → ⊥ = λ z. omega (arith, p .1, z, plain-parts (g .bits) (length s) e h .high) in
       rw (← q, ← o .is-cluster, p .0, ne-eqb (place e) 0 f, p .1)

@@ -1,4 +1,3 @@
-pub mod Entries
 pub mod Levels
 pub mod Below
 pub mod Stretches

@@ -8,8 +8,8 @@ use mathlib.Core.Bool.{Bool, true, false, not}
 use mathlib.Core.List.{List}
 use lib.Pow.{pow-pos}
 use Rattle.choice.proofs.Searches.{first-turn, first-none}
-use Rattle.choice.proofs.Runs.{search-miss}
-use Rattle.choice.proofs.Found.{none-first}
+use Rattle.choice.proofs.Runs.{first-miss}
+use Rattle.choice.proofs.Found.{first-false}
 use Rattle.qcow2_spec.specs.Header.{clusterSize, diskSize}
 use Rattle.qcow2_spec.specs.Runs.{goesOn, runLength}
 use Rattle.qcow2_spec.specs.Opened.{Opened}
@@ -68,7 +68,7 @@ module _ (s : List ℕ) (x len : ℕ) where
 
   pub run-next : (i left r : ℕ) → i + left ≤ len → Goes s x i left r → runFrom s x i (len - i) ≡ runFrom s x (i + r) (len - (i + r))
   unfolding runFrom
-  run-next i left r h u = search-miss p i r len (omega (arith, u .most)) (omega (arith, none-first p i r (λ j a b. at j a b)))
+  run-next i left r h u = first-miss p i r len (omega (arith, u .most)) (omega (arith, first-false p i r (λ j a b. at j a b)))
     where
       at : (j : ℕ) → i ≤ j → j < i + r → p j ≡ false
       at j a b = let d : i + (j - i) ≡ j = omega arith in ap not (rw d at (u .on (j - i) (omega arith)))

@@ -1,20 +1,17 @@
 -- A run by L1 entries, and by the entries of an L2 table.
 -- Assumes nothing.
-use Prim.Native.Nat.{ℕ, _+_, _-_, _*_, _%_, _^_, _≤_, _<_}
+use Prim.Native.Nat.{ℕ, _+_, _-_, _%_, _^_, _≤_, _<_}
 use mathlib.Core.Path.{_≡_}
-use mathlib.Core.Bool.{Bool, true, false, not}
+use mathlib.Core.Bool.{true, false, not}
 use mathlib.Core.List.{List}
 use lib.Dec.{eqb}
 use lib.ListN.{length}
 use Rattle.choice.specs.Pick.{if_then_else_, first}
-use Rattle.endian.specs.Big.{be64}
-use Rattle.qcow2_spec.specs.Header.{mostBits, mostLength, clusterSize, diskSize}
+use Rattle.qcow2_spec.specs.Header.{clusterSize, diskSize}
 use Rattle.qcow2_spec.specs.Entries.{place, goodL1}
 use Rattle.qcow2_spec.specs.Guest.{l1Entry}
-use Rattle.qcow2_spec.specs.Runs.{moved, sameFound, goesOn}
+use Rattle.qcow2_spec.specs.Runs.{goesOn}
 use Rattle.qcow2_spec.specs.declared.Geometry.{Geometry}
-use Rattle.qcow2_spec.specs.declared.Found.{Found}
-use Rattle.qcow2_entry.specs.Plain.{entryFound}
 use Rattle.qcow2_guest.specs.Rows.{rowLeft}
 use Rattle.qcow2_runs.specs.declared.Row.{Row}
 use Rattle.qcow2_runs.specs.declared.Row.the-variants.{Bad, Empty, Table}
@@ -42,20 +39,3 @@ pub record Ahead (g : Geometry) (s : List ℕ) (x i left : ℕ) : Type 0 where
   pub fits : x + (i + left) ≤ diskSize s
   pub start : (x + i) % 2 ^ g .bits ≡ 0
   pub row : left ≤ rowLeft (2 ^ g .bits) (2 ^ (g .bits - 3)) (x + i)
-
--- entries of an L2 table l, of an image of n bytes
-pub record Entries (bits n from end : ℕ) (l : List ℕ) : Type 0 where
-  pub low : 9 ≤ bits
-  pub high : bits ≤ mostBits
-  pub least : 2 ^ bits ≤ n
-  pub most : n ≤ mostLength
-  pub order : from ≤ end
-  pub inside : 8 * end ≤ length l
-
--- entry k goes on where f lies at the start of the guest cluster of an earlier one
-unfoldable pub entryGoes : (version C n : ℕ) → List ℕ → Found → (from k : ℕ) → Bool
-entryGoes version C n l f from k = sameFound (entryFound version C n (be64 l (8 * k)) 0) (moved f ((k - from) * C))
-
--- the first entry from k to an end that does not
-unfoldable pub entriesEnd : (version C n : ℕ) → List ℕ → Found → (from k end : ℕ) → ℕ
-entriesEnd version C n l f from k end = first (λ j. not (entryGoes version C n l f from j)) k (end - k)

@@ -12,10 +12,7 @@ use qcow2_spec::Found;
 use qcow2_spec::Geometry;
 use qcow2_spec::Listed;
 
-pub mod codes;
 mod rows;
-mod same;
-mod table;
 
 // What lies below an L1 entry.
 enum Row {
@@ -31,7 +28,7 @@ fn next_rows(image: &[u8], g: Geometry, x: u64, f: Found, i0: u64, len: u64) -> 
 {
     let mut i = i0;
     while i < len {
-        let m = qcow2_guest::reading::row_left(x + i, (len - i) as usize, g.bits) as u64;
+        let m = qcow2_guest::row_left(x + i, (len - i) as usize, g.bits) as u64;
         let r = rows::in_next_row(image, g, x, f, i, m);
         if r < m {
             return i + r;
@@ -55,8 +52,8 @@ fn put_row(rows: &mut [u64], at: usize, f: Found, r: u64)
     requires { ⌜ at + 3 ≤ length (now rows) ⌝ }
     ensures { λ _. ⌜ now (rows .exit) ≡ splice (now (rows .entry)) at (runRow f r) ⌝ }
 {
-    rows[at] = codes::found_code(f) as u64;
-    rows[at + 1] = codes::found_host(f);
+    rows[at] = qcow2_alike::codes::found_code(f) as u64;
+    rows[at + 1] = qcow2_alike::codes::found_host(f);
     rows[at + 2] = r;
 }
 

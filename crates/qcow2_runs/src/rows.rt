@@ -62,7 +62,7 @@ fn in_table(image: &[u8], g: Geometry, t: usize, x: u64, f: Found, i: u64, left:
     let c = power::power(g.bits) as usize;
     let from = power::rest(power::quotient(x + i, g.bits), g.bits - 3) as usize;
     let end = from + power::quotient(left + (c as u64 - 1), g.bits) as usize;
-    let k = crate::table::entries_end(
+    let k = qcow2_alike::table::entries_end(
         &image[t..t + c],
         from,
         end,
@@ -88,8 +88,8 @@ fn in_row(image: &[u8], g: Geometry, w: Row, x: u64, f: Found, i: u64, left: u64
     ensures { λ r. ⌜ Goes (now (image .entry)) x i left r ⌝ }
 {
     match w {
-        Row::Bad => all_if(crate::same::same(Found::Refused(12), f), left),
-        Row::Empty => all_if(crate::same::same(Found::Absent, f), left),
+        Row::Bad => all_if(qcow2_alike::same::same(Found::Refused(12), f), left),
+        Row::Empty => all_if(qcow2_alike::same::same(Found::Absent, f), left),
         Row::Table(t) => in_table(image, g, t, x, f, i, left),
     }
 }

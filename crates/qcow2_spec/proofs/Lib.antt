@@ -1,11 +1,14 @@
 pub mod Numbers
 pub mod Facts
+pub mod Good
 pub mod Open
 pub mod Geo
 pub mod Kept
 pub mod Refers
 pub mod Verdicts
 pub mod Ways
+pub mod Bytewise
+pub mod Lookup
 pub mod Rough
 pub mod Units
 pub mod Plans

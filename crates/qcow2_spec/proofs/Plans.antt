@@ -11,14 +11,14 @@ use lib.Dec.{leb, ltb, eqb}
 use lib.ListN.{length, getD}
 use lib.Seq.{sets}
 use borrow.Author.Tests.{ltb-true, ltb-false, leb-true, leb-false, eqb-true, eqb-false, le-leb, lt-ltb}
-use Rattle.clusters.proofs.Cell.{mem, small-enc}
-use Rattle.clusters.proofs.Meta.{cnt, l2, tab, dat, refsOf, Sound, dat-none, keep-refs}
-use Rattle.clusters.proofs.Step.{gread, gread-none, split-index, dat-in, free-not-0, Quiet}
-use Rattle.clusters.proofs.Run.{Store, Run, fill}
-use Rattle.clusters.proofs.Call.{Ok, Same as SameReads, Zeroed, MidZ, EndZ, discard-run, unmark-run, countStore}
-use Rattle.clusters.proofs.Write.{Wrote, Partly, MidW, EndW, MidP, place-run, marked-run, alloc-run, table-run}
-use Rattle.clusters.proofs.Repair.{MidR, Repaired, repair-run}
-use Rattle.clusters.proofs.Idle.{idle-store}
+use Rattle.cuts.proofs.Cell.{mem, small-enc}
+use Rattle.cuts.proofs.Meta.{cnt, l2, tab, dat, refsOf, Sound, dat-none, keep-refs}
+use Rattle.cuts.proofs.Step.{gread, gread-none, split-index, dat-in, free-not-0, Quiet}
+use Rattle.cuts.proofs.Run.{Store, Run, fill}
+use Rattle.cuts.proofs.Call.{Ok, SameGuest, Zeroed, MidZ, EndZ, discard-run, unmark-run, countStore}
+use Rattle.cuts.proofs.Write.{Wrote, Partly, MidW, EndW, MidP, place-run, marked-run, alloc-run, table-run}
+use Rattle.cuts.proofs.Repair.{MidR, Repaired, repair-run}
+use Rattle.cuts.proofs.Idle.{idle-store}
 use Rattle.choice.specs.Pick.{if_then_else_, first}
 use Rattle.endian.specs.Big.{bytes64}
 use Rattle.endian.proofs.Laws.{length-bytes64}
@@ -40,7 +40,7 @@ use Rattle.units.specs.declared.Outcome.the-variants.{Finished, Stopped, Refuse
 use Rattle.qcow2_spec.specs.declared.Verdict.{Verdict}
 use Rattle.qcow2_spec.specs.declared.Verdict.the-variants.{Sound as IsSound, Leaks, BadL1, BadL2, Shared, Short, Refused as NotChecked}
 use Rattle.units.specs.Plan.{storesCount}
-use Rattle.qcow2_spec.specs.Disk.{Request, write, discard, repair, planOf, finished, Same, Mixed, Fed}
+use Rattle.qcow2_spec.specs.Disk.{Request, write, discard, repair, planOf, finished, SameDisk, Mixed, Fed}
 use Rattle.qcow2_spec.specs.Rough.{chosen, roughly}
 use Rattle.qcow2_spec.specs.Series.{Bytes, BytesOf}
 use Rattle.choice.proofs.Tests.{if-yes, if-no, if-elim, and-true, or-false, two-ways}
@@ -102,16 +102,16 @@ within-cluster C x y n cp fits a b = go (ℕ-discrete (y / C) (x / C))
     go (yes e) = (e, omega (arith, d1, d2, ap (λ (z : ℕ). z * C) e))
     go (no n) = absurd (far n (decLt (y / C) (x / C)))
 
-strong : (b : Bool) (size : ℕ) (old new now : ℕ → ℕ) → Same size now old ⊎ Same size now new → (u : ℕ) → Fed (Stopped u) b size old new now
-unfolding Fed Same Mixed
+strong : (b : Bool) (size : ℕ) (old new now : ℕ → ℕ) → SameDisk size now old ⊎ SameDisk size now new → (u : ℕ) → Fed (Stopped u) b size old new now
+unfolding Fed SameDisk Mixed
 strong true size old new now h u = h
 strong false size old new now (inl h) u = λ x l. inl (h x l)
 strong false size old new now (inr h) u = λ x l. inr (h x l)
 
 -- the plain disk may be read off by either side
-module _ (size : ℕ) (old old′ new new′ now now′ : ℕ → ℕ) (ho : Same size old old′) (hn : Same size new new′) (hw : Same size now now′) where
+module _ (size : ℕ) (old old′ new new′ now now′ : ℕ → ℕ) (ho : SameDisk size old old′) (hn : SameDisk size new new′) (hw : SameDisk size now now′) where
   pub fed-same : (o : Outcome) (b : Bool) → Fed o b size old new now → Fed o b size old′ new′ now′
-  unfolding Fed Same Mixed
+  unfolding Fed SameDisk Mixed
   fed-same (Refused n) b h = λ y l. sym (hw y l) ∙ h y l ∙ ho y l
   fed-same (Finished u) b h = λ y l. sym (hw y l) ∙ h y l ∙ hn y l
   fed-same (Stopped u) true (inl h) = inl (λ y l. sym (hw y l) ∙ h y l ∙ ho y l)
@@ -139,12 +139,12 @@ module _ (s : List ℕ) (f : Facts s) where
   ep = geo-ok s f .epos
 
   -- ---- what the machinery says of the reads, for the plain disk
-  same-rd : (r t : List ℕ) → SameReads (geo s) (code s) r t → Same (diskSize s) (seen t) (seen r)
-  unfolding SameReads Same
+  same-rd : (r t : List ℕ) → SameGuest (geo s) (code s) r t → SameDisk (diskSize s) (seen t) (seen r)
+  unfolding SameGuest SameDisk
   same-rd r t h y l = h (y / clusterSize s / perTable s) (y / clusterSize s % perTable s) (y % clusterSize s) (in-l1 s f y l) (mod-lt (y / clusterSize s) ep) (mod-lt y cp)
 
-  zeroed-rd : (t : List ℕ) (c : ℕ) → Zeroed (geo s) (code s) (c / perTable s) (c % perTable s) s t → Same (diskSize s) (seen t) (finished (clusterSize s) (discard c) (seen s))
-  unfolding Same finished
+  zeroed-rd : (t : List ℕ) (c : ℕ) → Zeroed (geo s) (code s) (c / perTable s) (c % perTable s) s t → SameDisk (diskSize s) (seen t) (finished (clusterSize s) (discard c) (seen s))
+  unfolding SameDisk finished
   zeroed-rd t c h y l =
       if-elim (λ (v : ℕ). seen t y ≡ v) (eqb (y / clusterSize s) c) _ _
       (λ e. ap (λ (x : ℕ). gread (geo s) (code s) (mem (clusterSize s) t) (x / perTable s) (x % perTable s) (y % clusterSize s)) (eqb-true _ _ e) ∙ h .here (y % clusterSize s) (mod-lt y cp))
@@ -153,8 +153,8 @@ module _ (s : List ℕ) (f : Facts s) where
 
   wrote-rd : (t : List ℕ) (x : ℕ) (d : List ℕ) → x % clusterSize s + length d ≤ clusterSize s
       → Wrote (geo s) (code s) (x / clusterSize s / perTable s) (x / clusterSize s % perTable s) (x % clusterSize s) d s t
-      → Same (diskSize s) (seen t) (finished (clusterSize s) (write x d) (seen s))
-  unfolding Same
+      → SameDisk (diskSize s) (seen t) (finished (clusterSize s) (write x d) (seen s))
+  unfolding SameDisk
   wrote-rd t x d fits h y l = go (ℕ-discrete (y / clusterSize s) (x / clusterSize s))
     where
       C : ℕ
@@ -201,7 +201,7 @@ module _ (s : List ℕ) (f : Facts s) where
   part-rd : (t : List ℕ) (x : ℕ) (d : List ℕ) → x % clusterSize s + length d ≤ clusterSize s
       → Partly (geo s) (code s) (x / clusterSize s / perTable s) (x / clusterSize s % perTable s) (x % clusterSize s) d s t
       → Mixed (diskSize s) (seen t) (seen s) (finished (clusterSize s) (write x d) (seen s))
-  unfolding Mixed Same
+  unfolding Mixed SameDisk
   part-rd t x d fits h y l = go (dec-range x y (length d))
     where
       C : ℕ
@@ -241,7 +241,7 @@ module _ (s : List ℕ) (f : Facts s) where
   Mid r b t = Kept t × ((u : ℕ) → Fed (Stopped u) b (diskSize s) (seen s) (finished (clusterSize s) r (seen s)) (seen t))
 
   abbrev pub End : Request → List ℕ → Type 0
-  End r t = Kept t × (Same (diskSize s) (seen t) (finished (clusterSize s) r (seen s)) × Exact r t)
+  End r t = Kept t × (SameDisk (diskSize s) (seen t) (finished (clusterSize s) r (seen s)) × Exact r t)
 
   -- the autoclear field may as well be cleared before the units of a list as after them
   abbrev Aside : List UnitStore → Type 0
@@ -264,12 +264,12 @@ module _ (s : List ℕ) (f : Facts s) where
         (ap (λ (y : ℕ). y + autoclearAt) (zero-mul (clusterSize s)) ∙ zero-add autoclearAt)
         (idle-store (geo s) (code s) (geo-ok s f) m t k autoclearAt (bytes64 0) (omega arith) (omega (arith, length-bytes64 0)) (subst Bytes (enc8 0) (small-enc 8 0)))
 
-    cleared-seen : Same (diskSize s) (seen (applyU clear t)) (seen t)
-    unfolding SameReads
+    cleared-seen : SameDisk (diskSize s) (seen (applyU clear t)) (seen t)
+    unfolding SameGuest
     cleared-seen = same-rd t (applyU clear t) (cleared .1 .reads)
 
     mid-cleared : (r : Request) (b : Bool) → Mid r b t → Mid r b (applyU clear t)
-    unfolding Same
+    unfolding SameDisk
     mid-cleared r b h = (cleared .0, λ u. fed-same (diskSize s) _ _ _ _ _ _ (λ y l. refl) (λ y l. refl) (λ y l. sym (cleared-seen y l)) (Stopped u) b (h .1 u))
 
     exact-cleared : (r : Request) → Exact r t → Exact r (applyU clear t)
@@ -279,13 +279,13 @@ module _ (s : List ℕ) (f : Facts s) where
     exact-cleared (repair n) h = λ c l. cleared .1 .cnts c l ∙ h c l ∙ sym (keep-refs (geo s) (code s) (geo-ok s f) (mem (clusterSize s) t) (mem (clusterSize s) (applyU clear t)) (cleared .1 .keep) c)
 
     end-cleared : (r : Request) → End r t → End r (applyU clear t)
-    unfolding Same
+    unfolding SameDisk
     end-cleared r h = (cleared .0, ((λ y l. cleared-seen y l ∙ h .1 .0 y l), exact-cleared r (h .1 .1)))
 
   module _ (k : Kept s) where
     -- a list that is fine is so after the clearing unit
     fine-first : (r : Request) (us : List UnitStore) → Fine r (units us) → Fine r (units (clear ∷ us))
-    unfolding Fine storesCount applyAll Same roughly chosen
+    unfolding Fine storesCount applyAll SameDisk roughly chosen
     fine-first r us h = (cut, subst (End r) (sym whole) (end-cleared _ (h .1 .0) r (h .1)), aside)
       where
         -- a cut before the clearing unit stores nothing
@@ -314,8 +314,8 @@ module _ (s : List ℕ) (f : Facts s) where
     snd : Sound (geo s) (code s) m
     snd = k .sound
 
-    fine-none : (r : Request) → Same (diskSize s) (seen s) (finished (clusterSize s) r (seen s)) → Exact r s → Fine r (units [])
-    unfolding Fine applyAll Same
+    fine-none : (r : Request) → SameDisk (diskSize s) (seen s) (finished (clusterSize s) r (seen s)) → Exact r s → Fine r (units [])
+    unfolding Fine applyAll SameDisk
     fine-none r h e = ((λ a cs. rw (roughly-nil a cs) (k, strong (storesCount []) (diskSize s) (seen s) (finished (clusterSize s) r (seen s)) (seen s) (inl (λ y l. refl)))), (k, (h, e)), like-clear none)
 
     fine-refused : (r : Request) (n : ℕ) → Fine r (refused n)
@@ -381,8 +381,8 @@ module _ (s : List ℕ) (f : Facts s) where
             like-clear lk,
           )
         where
-          choose : (t : List ℕ) → SameReads (geo s) (code s) s t ⊎ Wrote (geo s) (code s) i j o d s t
-              → Same (diskSize s) (seen t) (seen s) ⊎ Same (diskSize s) (seen t) (finished (clusterSize s) (write x d) (seen s))
+          choose : (t : List ℕ) → SameGuest (geo s) (code s) s t ⊎ Wrote (geo s) (code s) i j o d s t
+              → SameDisk (diskSize s) (seen t) (seen s) ⊎ SameDisk (diskSize s) (seen t) (finished (clusterSize s) (write x d) (seen s))
           choose t (inl h) = inl (same-rd s t h)
           choose t (inr h) = inr (wrote-rd t x d inC h)
 
@@ -456,8 +456,8 @@ module _ (s : List ℕ) (f : Facts s) where
       fine-way noTable h = fine-table (freeFrom s 0) (freeFrom s (freeFrom s 0 + 1)) h (λ l. omega (arith, free-is (freeFrom s 0 + 1) l .0)) (λ l. free-is 0 l .1) (λ l. free-is (freeFrom s 0 + 1) l .1)
       fine-way (slot a e) h = fine-slot a e h
 
-    no-bytes : (x : ℕ) (d : List ℕ) → length d ≡ 0 → Same (diskSize s) (seen s) (finished (clusterSize s) (write x d) (seen s))
-    unfolding Same
+    no-bytes : (x : ℕ) (d : List ℕ) → length d ≡ 0 → SameDisk (diskSize s) (seen s) (finished (clusterSize s) (write x d) (seen s))
+    unfolding SameDisk
     no-bytes x d z y l = sym (written-out (clusterSize s) x d (seen s) y (λ p. omega arith))
 
     exact-write : (x : ℕ) (d : List ℕ) → Exact (write x d) s
@@ -488,14 +488,14 @@ module _ (s : List ℕ) (f : Facts s) where
           like-clear lk,
         )
       where
-        choose : (t : List ℕ) → SameReads (geo s) (code s) s t ⊎ Zeroed (geo s) (code s) (c / perTable s) (c % perTable s) s t
-            → Same (diskSize s) (seen t) (seen s) ⊎ Same (diskSize s) (seen t) (finished (clusterSize s) (discard c) (seen s))
+        choose : (t : List ℕ) → SameGuest (geo s) (code s) s t ⊎ Zeroed (geo s) (code s) (c / perTable s) (c % perTable s) s t
+            → SameDisk (diskSize s) (seen t) (seen s) ⊎ SameDisk (diskSize s) (seen t) (finished (clusterSize s) (discard c) (seen s))
         choose t (inl h) = inl (same-rd s t h)
         choose t (inr h) = inr (zeroed-rd t c h)
 
     -- nothing there: the guest reads zeros already
     fine-absent : (c : ℕ) → dat (geo s) (code s) m (c / perTable s) (c % perTable s) ≡ 0 → Fine (discard c) (units [])
-    unfolding Same finished Exact
+    unfolding SameDisk finished Exact
     fine-absent c z =
         fine-none (discard c)
         (λ y l. if-elim (λ (v : ℕ). seen s y ≡ v) (eqb (y / clusterSize s) c) _ _
@@ -566,7 +566,7 @@ module _ (s : List ℕ) (f : Facts s) where
         )
 
     fine-verdict : (n : ℕ) (v : Verdict) → verdict s ≡ v → Fine (repair n) (verdictPlan s v)
-    unfolding verdictPlan finished Exact Same
+    unfolding verdictPlan finished Exact SameDisk
     fine-verdict n IsSound q =
         fine-none (repair n) (λ y l. refl) (λ c l. cnt-own s f c l ∙ sound-exact s f snd q c l ∙ refs-own s f snd c)
     fine-verdict n (Leaks x) q = fine-list n

@@ -10,10 +10,10 @@ use mathlib.Core.List.{List, [], _∷_, _++_}
 use lib.Dec.{eqb}
 use lib.ListN.{length, take, drop}
 use borrow.Author.Tests.{eqb-true, eqb-false, eq-eqb, ne-eqb}
-use Rattle.clusters.proofs.Sum.{sumTo, sum-cong, sum-zero}
-use Rattle.clusters.proofs.Refs.{when-yes, hit, hit-zero, refs, tabs, dats}
-use Rattle.clusters.proofs.Cell.{mem}
-use Rattle.clusters.proofs.Meta.{same, blk, l1, l2, fix, tab, dat, refsOf, dat-none, dat-some}
+use Rattle.cuts.proofs.Sum.{sumTo, sum-cong, sum-zero}
+use Rattle.cuts.proofs.Refs.{when-yes, hit, hit-zero, refs, tabs, dats}
+use Rattle.cuts.proofs.Cell.{mem}
+use Rattle.cuts.proofs.Meta.{same, blk, l1, l2, fix, tab, dat, refsOf, dat-none, dat-some}
 use Rattle.choice.specs.Pick.{if_then_else_, ceilDiv}
 use Rattle.endian.specs.Big.{be64, part, entries}
 use Rattle.endian.proofs.Entries.{be64-drop, take-entries}

@@ -8,9 +8,9 @@ use mathlib.Core.List.{List, [], _∷_}
 use lib.Dec.{leb, ltb, eqb}
 use lib.ListN.{length, getD}
 use borrow.Author.Tests.{leb-true, le-ltb}
-use Rattle.clusters.proofs.Cell.{mem}
-use Rattle.clusters.proofs.Meta.{Geo, Codec, cnt, refsOf, Sound}
-use Rattle.clusters.proofs.Call.{Ok}
+use Rattle.cuts.proofs.Cell.{mem}
+use Rattle.cuts.proofs.Meta.{Geo, Codec, cnt, refsOf, Sound}
+use Rattle.cuts.proofs.Call.{Ok}
 use Rattle.choice.specs.Pick.{if_then_else_, unless}
 use Rattle.qcow2_spec.specs.Header.{clusterSize, clusters, diskSize, judge}
 use Rattle.qcow2_spec.specs.Counts.{countOf}
@@ -24,7 +24,7 @@ use Rattle.units.specs.declared.Outcome.{Outcome}
 use Rattle.units.specs.declared.Outcome.the-variants.{Finished, Stopped, Refused}
 use Rattle.qcow2_spec.specs.declared.Verdict.the-variants.{Refused as NotChecked}
 use Rattle.units.specs.Plan.{storesCount}
-use Rattle.qcow2_spec.specs.Disk.{Request, write, discard, repair, planOf, finished, Same, Fed}
+use Rattle.qcow2_spec.specs.Disk.{Request, write, discard, repair, planOf, finished, SameDisk, Fed}
 use Rattle.qcow2_spec.specs.Rough.{roughly, afterRough}
 use Rattle.qcow2_spec.specs.Series.{Bytes, Healthy, Agrees, Mended, MendedBy, Call, BytesOf, AllBytes, left, leftRough, ends, Step, Holds, RoughHolds, Demand3, RoughDemand3}
 use Rattle.choice.proofs.Tests.{if-no, if-elim, false-or}
@@ -44,6 +44,7 @@ record Good (start s : List ℕ) : Type 0 where
   one-size : diskSize s ≡ diskSize start
   one-C : clusterSize s ≡ clusterSize start
   one-N : clusters s ≡ clusters start
+  one-length : length s ≡ length start
 
 module _ (start s : List ℕ) (k : Good start s) where
   fs : Facts s
@@ -68,6 +69,9 @@ module _ (start s : List ℕ) (k : Good start s) where
         accepted = λ x len l. accepted s fs (k .judged) (k .sound) x len (within x len l);
         reads = λ x out l. read-whole s fs (k .judged) (k .sound) x out (within x (length out) l);
         checks = λ n l. rw (checked n l) (sound-healthy s fs (k .sound));
+        same-size = k .one-size;
+        same-clusters = k .one-N;
+        same-length = k .one-length;
       }
 
   mended : ((c : ℕ) → c < clusters s → countOf s c ≡ occurrences c (references s)) → Mended start s
@@ -91,13 +95,14 @@ module _ (start s : List ℕ) (k : Good start s) where
           one-size = same-disk s fs t q ∙ k .one-size;
           one-C = same-size s fs t q ∙ k .one-C;
           one-N = same-clusters s fs t q ∙ k .one-N;
+          one-length = q .len ∙ n-whole s fs ∙ k .one-length;
         }
 
     next-facts : Facts t
     next-facts = facts t (next-good .judged)
 
-    next-seen : Same (diskSize s) (rd (geo s) (code s) t) (guestByte t)
-    unfolding Same
+    next-seen : SameDisk (diskSize s) (rd (geo s) (code s) t) (guestByte t)
+    unfolding SameDisk
     next-seen y l =
         sym (guest-rd t next-facts (next-good .sound) y (rw (same-disk s fs t q) l)
         ∙ ap₂ (λ (g : Geo) (K : Codec). rd g K t y) (same-geo s fs t q) (same-code s fs t q))
@@ -110,8 +115,8 @@ module _ (start s : List ℕ) (k : Good start s) where
         ∙ sym (refs-own t next-facts (next-good .sound) c)
 
 -- ---- the plain disk may be read off by either side
-finished-same : (C size : ℕ) (r : Request) (a b : ℕ → ℕ) → Same size a b → Same size (finished C r a) (finished C r b)
-unfolding Same finished
+finished-same : (C size : ℕ) (r : Request) (a b : ℕ → ℕ) → SameDisk size a b → SameDisk size (finished C r a) (finished C r b)
+unfolding SameDisk finished
 finished-same C size (write x d) a b h y l = ap (λ (v : ℕ). if leb x y && ltb y (x + length d) then getD d (y - x) 0 else v) (h y l)
 finished-same C size (discard g) a b h y l = ap (λ (v : ℕ). if eqb (y / C) g then 0 else v) (h y l)
 finished-same C size (repair n) a b h y l = h y l
@@ -129,7 +134,7 @@ module _ (start s : List ℕ) (k : Good start s) where
     exact : ExactBy s (fs start s k) r o t
 
   result : (r : Request) (a : ℕ) (bytes : List Bool) (p : Plan) → Fine s (fs start s k) r p → Result r (outcome p a) (storesCount (planUnits p)) (afterRough p a bytes s)
-  unfolding outcome ended afterRough planUnits applyAll Fine Fed ExactBy Same
+  unfolding outcome ended afterRough planUnits applyAll Fine Fed ExactBy SameDisk
   result r a bytes (refused n) h = rw (roughly-nil a bytes) (record { kept = own start s k; fed = λ y l. refl; exact = tt })
   result r a bytes (units us) h =
       if-elim (λ (o : Outcome). Result r o (storesCount us) (applyAll (roughly us a bytes) s)) (leb (length us) a) (Finished (length us)) (Stopped a)
@@ -150,7 +155,7 @@ module _ (start s : List ℕ) (k : Good start s) where
       let p = planOf s (c .asks) in
       let t = afterRough p (c .allowance) bytes s in
       let w : Result (c .asks) (outcome p (c .allowance)) (storesCount (planUnits p)) t = result (c .asks) (c .allowance) bytes p (plan-fine s (fs start s k) (own start s k) (k .judged) (c .asks) sm) in
-      let z : Same (diskSize s) (rd (geo s) (code s) s) (guestByte s) = next-seen start s k s (own start s k) in (
+      let z : SameDisk (diskSize s) (rd (geo s) (code s) s) (guestByte s) = next-seen start s k s (own start s k) in (
         next-good start s k t (w .kept),
         record {
           fed = rw (← k .one-size, ← k .one-C)
@@ -188,7 +193,7 @@ healthy-check s h = go (judge s) h
 pub rough3 : RoughDemand3
 rough3 s by h calls sm =
     let e = healthy-check s h in
-    let k : Good s s = record { judged = e .0; bytes = by; sound = healthy-sound s (facts s (e .0)) by (e .1); one-size = refl; one-C = refl; one-N = refl } in
+    let k : Good s s = record { judged = e .0; bytes = by; sound = healthy-sound s (facts s (e .0)) by (e .1); one-size = refl; one-C = refl; one-N = refl; one-length = refl } in
     (agrees s s k, all s s k calls sm)
 
 pub demand3 : Demand3

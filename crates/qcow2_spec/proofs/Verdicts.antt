@@ -9,10 +9,10 @@ use mathlib.Core.List.{List}
 use lib.Dec.{ltb, eqb}
 use lib.ListN.{length, getD, drop}
 use borrow.Author.Tests.{ltb-false, eqb-true, eqb-false, not-false, le-ltb}
-use Rattle.clusters.proofs.Cell.{mem}
-use Rattle.clusters.proofs.Meta.{l1, l2, tab, blk, refsOf, Sound}
-use Rattle.choice.proofs.Runs.{none-found}
-use Rattle.choice.proofs.Found.{none-first, none-counted, none-count}
+use Rattle.cuts.proofs.Cell.{mem}
+use Rattle.cuts.proofs.Meta.{l1, l2, tab, blk, refsOf, Sound}
+use Rattle.choice.proofs.Runs.{first-passed}
+use Rattle.choice.proofs.Found.{first-false, count-zero, count-false}
 use Rattle.choice.specs.Pick.{if_then_else_, first, count}
 use Rattle.endian.specs.Big.{be64, part, entries}
 use Rattle.endian.proofs.Entries.{be64-drop}
@@ -131,17 +131,17 @@ module _ (s fs : List ℕ) where
 
   single : ltb shared (clusters s) ≡ false → (k : ℕ) → k < clusters s → getD fs k 0 ≤ 1
   unfolding twice
-  single h k l = ltb-false _ _ (none-found (twice fs) 0 (clusters s) k (omega (arith, ltb-false shared (clusters s) h)) zero-le (omega arith))
+  single h k l = ltb-false _ _ (first-passed (twice fs) 0 (clusters s) k (omega (arith, ltb-false shared (clusters s) h)) zero-le (omega arith))
 
   covered : ltb low (clusters s) ≡ false → (k : ℕ) → k < clusters s → getD fs k 0 ≤ countOf s k
   unfolding short
-  covered h k l = ltb-false _ _ (none-found (short s fs) 0 (clusters s) k (omega (arith, ltb-false low (clusters s) h)) zero-le (omega arith))
+  covered h k l = ltb-false _ _ (first-passed (short s fs) 0 (clusters s) k (omega (arith, ltb-false low (clusters s) h)) zero-le (omega arith))
 
   counts-last : ((k : ℕ) → k < clusters s → getD fs k 0 ≤ 1) → ((k : ℕ) → k < clusters s → getD fs k 0 ≤ countOf s k) → countsVerdict s fs ≡ last
   unfolding countsVerdict twice short
   counts-last a b =
-      if-no (ltb shared (clusters s)) _ _ (le-ltb shared (clusters s) (omega (arith, none-first (twice fs) 0 (clusters s) (λ x l m. le-ltb _ _ (a x (omega arith))))))
-      ∙ if-no (ltb low (clusters s)) _ _ (le-ltb low (clusters s) (omega (arith, none-first (short s fs) 0 (clusters s) (λ x l m. le-ltb _ _ (b x (omega arith))))))
+      if-no (ltb shared (clusters s)) _ _ (le-ltb shared (clusters s) (omega (arith, first-false (twice fs) 0 (clusters s) (λ x l m. le-ltb _ _ (a x (omega arith))))))
+      ∙ if-no (ltb low (clusters s)) _ _ (le-ltb low (clusters s) (omega (arith, first-false (short s fs) 0 (clusters s) (λ x l m. le-ltb _ _ (b x (omega arith))))))
 
   last-healthy : Healthy last
   unfolding Healthy
@@ -153,7 +153,7 @@ module _ (s fs : List ℕ) where
 
   last-exact : last ≡ IsSound → (k : ℕ) → k < clusters s → countOf s k ≤ getD fs k 0
   unfolding over
-  last-exact h k l = ltb-false _ _ (none-counted (over s fs) 0 (clusters s) (go (two-ways (ltb 0 leaks))) k zero-le (omega arith))
+  last-exact h k l = ltb-false _ _ (count-zero (over s fs) 0 (clusters s) (go (two-ways (ltb 0 leaks))) k zero-le (omega arith))
     where
       go : (ltb 0 leaks ≡ true) ⊎ (ltb 0 leaks ≡ false) → leaks ≡ 0
       go (inl e) = let q : Leaks leaks ≡ IsSound = sym (if-yes (ltb 0 leaks) (Leaks leaks) IsSound e) ∙ h in absurd (let z : _≡_ {A = ℕ} 0 1 = cc in omega arith)
@@ -163,7 +163,7 @@ module _ (s fs : List ℕ) where
   unfolding over
   exact-last h =
       if-no (ltb 0 leaks) (Leaks leaks) IsSound
-      (le-ltb 0 leaks (omega (arith, none-count (over s fs) 0 (clusters s) (λ x l m. le-ltb (getD fs x 0) (countOf s x) (omega (arith, h x (omega arith)))))))
+      (le-ltb 0 leaks (omega (arith, count-false (over s fs) 0 (clusters s) (λ x l m. le-ltb (getD fs x 0) (countOf s x) (omega (arith, h x (omega arith)))))))
 
 -- cluster k's figure
 pub figure-is : (s : List ℕ) (k : ℕ) → k < clusters s → getD (figuresOf s) k 0 ≡ min 2 (occurrences k (references s))

@@ -9,10 +9,10 @@ use mathlib.Core.List.{List}
 use lib.Dec.{ltb, eqb}
 use lib.ListN.{length, getD}
 use borrow.Author.Tests.{ltb-false, eqb-true, eqb-false, not-false}
-use Rattle.clusters.proofs.Cell.{mem}
-use Rattle.clusters.proofs.Meta.{Geo, Codec, l1, l2, tab, dat, Sound, dat-none, dat-some}
-use Rattle.clusters.proofs.Step.{gread, gread-none}
-use Rattle.clusters.proofs.Write.{gread-shown, gread-marked}
+use Rattle.cuts.proofs.Cell.{mem}
+use Rattle.cuts.proofs.Meta.{Geo, Codec, l1, l2, tab, dat, Sound, dat-none, dat-some}
+use Rattle.cuts.proofs.Step.{gread, gread-none}
+use Rattle.cuts.proofs.Write.{gread-shown, gread-marked}
 use Rattle.choice.specs.Pick.{each}
 use Rattle.endian.specs.Big.{be64, part}
 use Rattle.qcow2_spec.specs.Header.{version, clusterSize, diskSize, l1Size, perTable, judge}
@@ -183,7 +183,7 @@ module _ (s : List ℕ) (f : Facts s) where
   ways-open : (k g : ℕ) → ((y : ℕ) → g ≤ y → y < g + k → wayNumber (way s y) ≡ 0) → waysNumber s g k ≡ 0
   unfolding waysNumber
   ways-open zero g h = refl
-  ways-open (suc k) g h = rw (h g (le-refl g) (omega arith)) (ways-open k (suc g) (λ y l n. h y (omega arith) (omega arith)))
+  ways-open (suc k) g h = rw (h g (le-refl g) (omega arith), ways-open k (suc g) (λ y l n. h y (omega arith) (omega arith)))
 
   touched-in : (x len y : ℕ) → x + len ≤ diskSize s → x / clusterSize s ≤ y → y < x / clusterSize s + touched (clusterSize s) x len → y / perTable s < l1Size s
   unfolding touched

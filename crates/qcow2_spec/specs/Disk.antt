@@ -32,8 +32,8 @@ finished C (discard g) disk y = if eqb (y / C) g then 0 else disk y
 finished C (repair n) disk y = disk y
 
 -- the bytes below size are the same
-unfoldable pub Same : (size : ℕ) (a b : ℕ → ℕ) → Type 0
-Same size a b = (y : ℕ) → y < size → a y ≡ b y
+unfoldable pub SameDisk : (size : ℕ) (a b : ℕ → ℕ) → Type 0
+SameDisk size a b = (y : ℕ) → y < size → a y ≡ b y
 
 -- each byte below size is that of a or that of b
 unfoldable pub Mixed : (size : ℕ) (now a b : ℕ → ℕ) → Type 0
@@ -41,7 +41,7 @@ Mixed size now a b = (y : ℕ) → y < size → (now y ≡ a y) ⊎ (now y ≡ b
 
 -- a call finds the disk `old` and leaves it `now`, and `new` is what finishing gives
 unfoldable pub Fed : Outcome → (stores : Bool) → (size : ℕ) (old new now : ℕ → ℕ) → Type 0
-Fed (Refused k) stores size old new now = Same size now old
-Fed (Finished u) stores size old new now = Same size now new
-Fed (Stopped u) true size old new now = Same size now old ⊎ Same size now new
+Fed (Refused k) stores size old new now = SameDisk size now old
+Fed (Finished u) stores size old new now = SameDisk size now new
+Fed (Stopped u) true size old new now = SameDisk size now old ⊎ SameDisk size now new
 Fed (Stopped u) false size old new now = Mixed size now old new

@@ -1,8 +1,10 @@
 pub mod Header
 pub mod Entries
+pub mod Good
 pub mod References
 pub mod Counts
 pub mod Guest
+pub mod Bytewise
 pub mod Runs
 pub mod Store
 pub mod Check

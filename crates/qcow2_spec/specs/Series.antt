@@ -32,12 +32,15 @@ Healthy (Shared k) = ⊥
 Healthy (Short k) = ⊥
 Healthy (NotChecked k) = ⊥
 
--- a read of s that does not run past the size is accepted and gives the disk's bytes; a check with scratch enough says sound or leaking.
--- The size and the number of clusters are those of the series' first image
+-- a read of s that does not run past the size is accepted and gives the disk's bytes; a check with scratch enough says sound or leaking;
+-- the disk's size, the number of clusters and the image's length are still those of the series' first image
 pub record Agrees (start s : List ℕ) (disk : ℕ → ℕ) : Type 0 where
   pub accepted : (x len : ℕ) → x + len ≤ diskSize start → readNumber s x len ≡ 0
   pub reads : (x : ℕ) (out : List ℕ) → x + length out ≤ diskSize start → readInto s x out ≡ each disk x (length out)
   pub checks : (scratch : ℕ) → clusters start ≤ scratch → Healthy (check s scratch)
+  pub same-size : diskSize s ≡ diskSize start
+  pub same-clusters : clusters s ≡ clusters start
+  pub same-length : length s ≡ length start
 
 -- a check says sound, and a stored count is 0 exactly where the cluster has no reference
 pub record Mended (start s : List ℕ) : Type 0 where

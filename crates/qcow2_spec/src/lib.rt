@@ -32,18 +32,18 @@ pub enum Verdict {
     Refused(u8),
 }
 
-// What an accepted header gives. The cluster size is 2 to the power bits, and a count has 2 to the power order bits; rows: the entries of the L1 table, which starts at l1;
-// span: the clusters of the refcount table, which starts at table; blocks: the refcount blocks that the image needs.
+// What an accepted header gives. The cluster size is 2 to the power bits, and a count has 2 to the power order bits; the L1 table has l1size
+// entries and starts at l1at, the refcount table has tableclusters clusters and starts at tableat; blocks: the refcount blocks that the image needs.
 pub struct Geometry {
     pub version: u32,
     pub bits: u32,
     pub order: u32,
     pub clusters: usize,
     pub size: u64,
-    pub rows: usize,
-    pub l1: usize,
-    pub table: usize,
-    pub span: usize,
+    pub l1size: usize,
+    pub l1at: usize,
+    pub tableat: usize,
+    pub tableclusters: usize,
     pub blocks: usize,
 }
 

@@ -1,14 +1,4 @@
-pub mod Sizes
-pub mod Counts
-pub mod Pairs
 pub mod Slots
 pub mod Discards
-pub mod Clears
 pub mod Writes
 pub mod Links
-pub mod Fixes
-pub mod Wholes
-pub mod Midway
-pub mod Alone
-pub mod Apart
-pub mod Repairs

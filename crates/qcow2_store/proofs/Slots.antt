@@ -14,7 +14,7 @@ use Rattle.qcow2_spec.specs.declared.Way.{Way}
 use Rattle.qcow2_spec.specs.declared.Way.the-variants.{NoTable, Slot}
 use Rattle.qcow2_spec.proofs.Facts.{placed, good-place2, c-pos, c-in}
 use Rattle.qcow2_spec.specs.Ready.{Slotted, Ready}
-use Rattle.qcow2_store.proofs.Sizes.{sizes}
+use Rattle.qcow2_counts.proofs.Sizes.{sizes}
 
 -- an entry that is good names a cluster of the image
 pub record Placed (g : Geometry) (s : List ℕ) (p : ℕ) : Type 0 where

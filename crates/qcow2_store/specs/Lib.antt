@@ -1,5 +1,1 @@
-pub mod Blocks
-pub mod Ends
-pub mod Links
 pub mod Jobs
-pub mod Leaks

@@ -1,9 +1,4 @@
-// Writes, discards and repairs, unit by unit within an allowance, on an image whose header is accepted.
-mod clearing;
+// Write and discard: what is to be stored is found first, over an image that can't be changed, and then stored under an allowance.
 pub mod discarding;
 mod finding;
-pub mod free;
-mod groups;
-mod linking;
-pub mod repairing;
 pub mod writing;

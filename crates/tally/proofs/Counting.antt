@@ -9,8 +9,8 @@ use borrow.Author.Tests.{ltb-true, ltb-false, lt-ltb, le-ltb, eqb-true, eqb-fals
 use lib.Dec.{ltb, eqb}
 use Rattle.choice.specs.Pick.{if_then_else_, first, count}
 use Rattle.choice.proofs.Searches.{first-turn, count-turn, count-turns, count-most}
-use Rattle.choice.proofs.Runs.{search-miss}
-use Rattle.choice.proofs.Found.{none-first}
+use Rattle.choice.proofs.Runs.{first-miss}
+use Rattle.choice.proofs.Found.{first-false}
 use Rattle.tally.specs.Tally.{signOf, counted, Counting}
 use Rattle.tally.specs.declared.Sign.the-variants.{Short, Even, Over}
 use Rattle.tally.specs.declared.Counted.{Counted}
@@ -55,7 +55,7 @@ module _ (p q : ℕ → Bool) (N : ℕ) where
   pub counting-part : (k m x : ℕ) (c : Counted) → k + m ≤ N → Counting p q N k c → ((j : ℕ) → k ≤ j → j < k + m → p j ≡ false) → x ≡ count q k m
       → Counting p q N (k + m) (record { low = c .low; over = c .over + x })
   counting-part k m x c h d e f = record {
-    lowest = rw (← search-miss p k m N h (omega (arith, none-first p k m e))) (d .lowest);
+    lowest = rw (← first-miss p k m N h (omega (arith, first-false p k m e))) (d .lowest);
     leaks = omega (arith, f, count-turns q k m N h, d .leaks);
     small = d .small;
     few = omega (arith, f, count-most q k m, d .few);

@@ -13,7 +13,7 @@ use lib.ListN.{length, getD, drop}
 use lib.Seq.{drop-cons, drop-length}
 use Rattle.choice.specs.Pick.{all, first}
 use Rattle.choice.proofs.Tests.{and-true as both-true}
-use Rattle.choice.proofs.Found.{none-first}
+use Rattle.choice.proofs.Found.{first-false}
 use Rattle.tally.specs.Tally.{twice}
 
 abbrev pub single : ℕ → Bool
@@ -43,7 +43,7 @@ all-at p (x ∷ s) h (suc k) l = all-at p s (both-true (p x) _ h .1) k (omega ar
 -- where every figure is 0 or 1, the search for another finds nothing
 pub none-twice : (s : List ℕ) → all single s ≡ true → length s ≡ first (twice s) 0 (length s)
 unfolding twice
-none-twice s h = sym (none-first (twice s) 0 (length s) never ∙ zero-add (length s))
+none-twice s h = sym (first-false (twice s) 0 (length s) never ∙ zero-add (length s))
   where
     never : (x : ℕ) → 0 ≤ x → x < 0 + length s → twice s x ≡ false
     never x a b = le-ltb 1 (getD s x 0) (let g : getD s x 0 < 2 = ltb-true _ 2 (all-at single s h x (omega arith)) in omega arith)

@@ -29,7 +29,7 @@ first-bad-requires c κs =
     let a = c .before .before .before .before .before in
     let b = a .before .before .before .before in
     let e = a .count-all .ensures .0 in
-    (b .pre .0, (rw (b .pre .0 .is-rows) (e .few), (e .front, e .bad (rw (b .pre .0 .is-rows) at (c .if1 .taken)) .1)))
+    (b .pre .0, (rw (b .pre .0 .is-l1size) (e .few), (e .front, e .bad (rw (b .pre .0 .is-l1size) at (c .if1 .taken)) .1)))
 
 returns : tie.Need-returns
 unfolding scratchAfter
@@ -38,7 +38,7 @@ returns c =
     let a = i .before .before .before .before .before in
     let b = a .before .before .before .before in
     let e = a .count-all .ensures in (
-      c .first-bad .ensures ∙ verdict-bad (now (b .args .image)) _ _ (e .0) (rw (b .pre .0 .is-rows) at (i .if1 .taken)),
+      c .first-bad .ensures ∙ verdict-bad (now (b .args .image)) _ _ (e .0) (rw (b .pre .0 .is-l1size) at (i .if1 .taken)),
       rw (e .1, b .pre .0 .is-clusters),
     )
 
@@ -60,7 +60,7 @@ returns-2 c =
     let b = a .before .before .before .before in
     let e = a .count-all .ensures in (
       (rw (take-at _ _ _ (came-back a), e .1) at (c .judge-counts .ensures))
-          ∙ verdict-good (now (b .args .image)) _ _ (e .0) (rw (b .pre .0 .is-rows) at (i .if1 .left)),
+          ∙ verdict-good (now (b .args .image)) _ _ (e .0) (rw (b .pre .0 .is-l1size) at (i .if1 .left)),
       rw (e .1, b .pre .0 .is-clusters),
     )
 

@@ -13,7 +13,7 @@ use Rattle.qcow2_header.proofs.judge_entries.Tie as tie
 
 mul-count : tie.Need-mul-count
 mul-count c =
-    let h : c .before .before .before .args .g .span ≤ 4294967295 = omega arith in
+    let h : c .before .before .before .args .g .tableclusters ≤ 4294967295 = omega arith in
     let k : c .before .power .result / 8 ≤ 268435456 = omega arith in
     omega (arith, mul-le-mul h k)
 
@@ -22,7 +22,7 @@ good-requires c κs =
     let g = c .before .before .before .before .args .g in
     let p = c .before .before .before .before .pre in
     rw (c .before .before .power .ensures .0, part-rest, length-drop)
-    (((p .read .low, p .read .high), p .read .room), (p .enough, omega (arith, entries-fit (g .span) (2 ^ g .bits), p .fits)))
+    (((p .read .low, p .read .high), p .read .room), (p .enough, omega (arith, entries-fit (g .tableclusters) (2 ^ g .bits), p .fits)))
 
 returns : tie.Need-returns
 unfolding from10

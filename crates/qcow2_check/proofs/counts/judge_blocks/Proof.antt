@@ -8,8 +8,8 @@ use denote.Ref.{now}
 use Rattle.tally.proofs.Counting.{counting-first}
 use Rattle.qcow2_check.specs.Known.{Judging}
 use Rattle.qcow2_check.proofs.Compares.{judged-all, judged-on}
-use Rattle.qcow2_check.proofs.Runs.{few-clusters}
-use Rattle.qcow2_check.proofs.Stored.{at-block, some-per, block-packed, next-block}
+use Rattle.qcow2_refs.proofs.Runs.{few-clusters}
+use Rattle.qcow2_counts.proofs.Blocks.{at-block, some-per, block-packed, next-block}
 use Rattle.qcow2_check.proofs.counts.judge_blocks.Statement.{statement}
 use Rattle.qcow2_check.proofs.counts.judge_blocks.Tie as tie
 

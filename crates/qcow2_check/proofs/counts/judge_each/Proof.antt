@@ -9,7 +9,7 @@ use denote.Ref.{now}
 use Rattle.qcow2_spec.specs.Check.{short, over}
 use Rattle.qcow2_spec.specs.Counts.{countOf}
 use Rattle.qcow2_check.specs.Known.{Judging}
-use Rattle.qcow2_check.proofs.Stored.{packed-inside}
+use Rattle.qcow2_counts.proofs.Blocks.{packed-inside}
 use Rattle.qcow2_check.proofs.Compares.{judged-all, judged-on}
 use Rattle.tally.proofs.Counting.{counting-next}
 use Rattle.qcow2_check.proofs.counts.judge_each.Statement.{statement}

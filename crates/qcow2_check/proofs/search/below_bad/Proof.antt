@@ -8,9 +8,10 @@ use lib.ListN.{length}
 use denote.Ref.{now}
 use Rattle.qcow2_spec.specs.Header.{perTable}
 use Rattle.qcow2_spec.specs.Entries.{place, goodL1}
-use Rattle.qcow2_check.specs.Known.{rowBad, belowBad, rowAt}
-use Rattle.qcow2_check.proofs.Places.{place-inside, l1-place}
-use Rattle.qcow2_check.proofs.Walks.{part-of, length-part}
+use Rattle.qcow2_check.specs.Known.{rowBad}
+use Rattle.qcow2_refs.specs.Walks.{belowBad, rowAt}
+use Rattle.qcow2_refs.proofs.Places.{place-inside, l1-place}
+use Rattle.packed.proofs.Parts.{part-of, length-part}
 use Rattle.qcow2_check.proofs.Naming.{below-some}
 use Rattle.qcow2_check.proofs.search.below_bad.Statement.{statement}
 use Rattle.qcow2_check.proofs.search.below_bad.Tie as tie

@@ -4,7 +4,8 @@ use borrow.Author.Tests.{eq-eqb, ne-eqb}
 use denote.Ref.{now}
 use Rattle.qcow2_spec.specs.Header.{perTable}
 use Rattle.qcow2_spec.specs.Entries.{place}
-use Rattle.qcow2_check.specs.Known.{belowCount, rowAt}
+use Rattle.qcow2_check.specs.Known.{belowCount}
+use Rattle.qcow2_refs.specs.Walks.{rowAt}
 use Rattle.qcow2_check.proofs.search.below_count.Statement.{statement}
 use Rattle.qcow2_check.proofs.search.below_count.Tie as tie
 

@@ -10,7 +10,8 @@ use denote.Ref.{now}
 use Rattle.choice.specs.Pick.{if_then_else_}
 use Rattle.qcow2_spec.specs.Header.{l1Size}
 use Rattle.qcow2_spec.specs.declared.Verdict.the-variants.{Sound, BadL1, BadL2}
-use Rattle.qcow2_check.specs.Known.{ClearTo, rowBad, belowBad, belowCount}
+use Rattle.qcow2_refs.specs.Walks.{ClearTo, belowBad}
+use Rattle.qcow2_check.specs.Known.{rowBad, belowCount}
 use Rattle.qcow2_check.proofs.Naming.{rowsFrom, belowFrom, rows-first, rows-later, rows-hit, rows-miss, rows-none, below-hit, below-miss, below-none, below-later}
 use Rattle.qcow2_check.proofs.search.first_bad.Statement.{statement}
 use Rattle.qcow2_check.proofs.search.first_bad.Tie as tie
@@ -30,7 +31,7 @@ abbrev μ-outer : tie.MeasureT-outer
 outer-holds : tie.Need-outer-holds Inv-loop μ-loop Inv-outer μ-outer
 outer-holds c =
     let b = c .before in
-    (b .pre .1 .0, refl, rows-later (now (b .args .image)) Sound (b .args .from) (rw (b .pre .0 .is-rows) at (b .pre .1 .0)) (b .pre .1 .1 .0), b .pre .1 .1 .1)
+    (b .pre .1 .0, refl, rows-later (now (b .args .image)) Sound (b .args .from) (rw (b .pre .0 .is-l1size) at (b .pre .1 .0)) (b .pre .1 .1 .0), b .pre .1 .1 .1)
 
 row-bad-requires : tie.Need-row-bad-requires Inv-loop μ-loop Inv-outer μ-outer
 row-bad-requires c κs = (c .before .before .before .pre .0, c .outer-test .taken)
@@ -46,7 +47,7 @@ loop-holds c =
     let s = now (b .args .image) in
     let i = t .before .outer .i in
     let e : rowBad s i ≡ false = sym (f .before .row-bad .ensures) ∙ f .if1 .left in
-    let l : i < l1Size s = rw (b .pre .0 .is-rows) at (t .outer-test .taken) in
+    let l : i < l1Size s = rw (b .pre .0 .is-l1size) at (t .outer-test .taken) in
     (t .before .outer .inv .1, below-later s i (t .before .outer .j) (t .before .outer .inv .3) ∙ sym (rows-miss s i l e) ∙ t .before .outer .inv .2)
 
 below-bad-requires : tie.Need-below-bad-requires Inv-loop μ-loop Inv-outer μ-outer
@@ -86,19 +87,19 @@ outer-again c =
 -- by whichever way the search was left, what it found
 ended : (c : tie.Left-outer Inv-loop μ-loop Inv-outer μ-outer) →
     rowsFrom (now (c .before .before .before .args .image)) Sound 0
-    ≡ (if c .outer-test .below then BadL2 (c .before .outer .i) (c .outer-test .j) else if ltb (c .before .outer .i) (c .before .before .before .args .g .rows) then BadL1 (c .before .outer .i) else Sound)
+    ≡ (if c .outer-test .below then BadL2 (c .before .outer .i) (c .outer-test .j) else if ltb (c .before .outer .i) (c .before .before .before .args .g .l1size) then BadL1 (c .before .outer .i) else Sound)
 ended c =
     let o = c .before in
     let b = o .before .before in
     let s = now (b .args .image) in
     let i = o .outer .i in
-    let r = b .args .g .rows in
+    let r = b .args .g .l1size in
     ⊎-elim
-    (λ w. rw (w .2, o .outer .inv .1, le-ltb i r (w .0 .left)) (sym (o .outer .inv .2) ∙ rows-none s Sound i (rw (b .pre .0 .is-rows) at (w .0 .left))))
+    (λ w. rw (w .2, o .outer .inv .1, le-ltb i r (w .0 .left)) (sym (o .outer .inv .2) ∙ rows-none s Sound i (rw (b .pre .0 .is-l1size) at (w .0 .left))))
     (⊎-elim
     (λ w.
     let e : rowBad s i ≡ true = sym (w .1 .ensures) ∙ w .2 .taken in
-    rw (w .4, o .outer .inv .1, lt-ltb i r (w .0 .taken)) (sym (o .outer .inv .2) ∙ rows-hit s i (rw (b .pre .0 .is-rows) at (w .0 .taken)) e))
+    rw (w .4, o .outer .inv .1, lt-ltb i r (w .0 .taken)) (sym (o .outer .inv .2) ∙ rows-hit s i (rw (b .pre .0 .is-l1size) at (w .0 .taken)) e))
     (λ w.
     let e : belowBad s i (w .4 .j) ≡ true = sym (w .6 .ensures) ∙ w .7 .taken in
     let k : w .4 .j < belowCount s i = rw (w .3 .ensures) at (w .5 .taken) in

@@ -14,7 +14,7 @@ returns c = rw (← c .before .misplaced .ensures, c .if1 .taken)
 
 mul-misplaced-2 : tie.Need-mul-misplaced-2
 mul-misplaced-2 c =
-    let h : c .before .before .before .args .g .span ≤ 4294967295 = omega arith in
+    let h : c .before .before .before .args .g .tableclusters ≤ 4294967295 = omega arith in
     omega (arith, mul-le-mul h (c .power .ensures .1 .1))
 
 returns-2 : tie.Need-returns-2
@@ -25,7 +25,7 @@ returns-2 c =
 
 mul-result : tie.Need-mul-result
 mul-result c =
-    let h : c .before .before .before .before .before .args .g .span ≤ 4294967295 = omega arith in
+    let h : c .before .before .before .before .before .args .g .tableclusters ≤ 4294967295 = omega arith in
     let k : c .before .before .power .result / 8 ≤ 268435456 = omega arith in
     omega (arith, mul-le-mul h k)
 

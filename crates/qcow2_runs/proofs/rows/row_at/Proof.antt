@@ -4,7 +4,7 @@ use denote.Ref.{now}
 use lib.ListN.{length}
 use Rattle.qcow2_spec.proofs.Facts.{facts, c-in}
 use Rattle.qcow2_entry.proofs.Plain.{plain-parts}
-use Rattle.qcow2_runs.proofs.Levels.{is-empty, is-table, is-bad}
+use Rattle.qcow2_runs.proofs.Levels.{is-empty, is-tableat, is-bad}
 use Rattle.qcow2_runs.proofs.rows.row_at.Statement.{statement}
 use Rattle.qcow2_runs.proofs.rows.row_at.Tie as tie
 
@@ -30,7 +30,7 @@ sub-t9 c =
 returns-2 : tie.Need-returns-2
 returns-2 c =
     let b = c .before .before .before .before .before in
-    is-table (b .args .g) (now (b .args .image)) (b .pre .0) (b .args .guest) _ (c .before .before .before .l1-entry .ensures) (sym (c .before .is-plain .ensures) ∙ c .if2 .taken)
+    is-tableat (b .args .g) (now (b .args .image)) (b .pre .0) (b .args .guest) _ (c .before .before .before .l1-entry .ensures) (sym (c .before .is-plain .ensures) ∙ c .if2 .taken)
 
 returns-3 : tie.Need-returns-3
 returns-3 c =

@@ -2,7 +2,7 @@ use borrow.Author.Needs.{needs}
 use native.Mathlib.Omega.{arith}
 use denote.Ref.{now}
 use Rattle.qcow2_store.specs.Jobs.{freedUnits}
-use Rattle.qcow2_store.proofs.Clears.{within, clear-first}
+use Rattle.qcow2_put.proofs.Clears.{within, clear-first}
 use Rattle.qcow2_store.proofs.Discards.{freed-some}
 use Rattle.qcow2_store.proofs.discarding.store.Statement.{statement}
 use Rattle.qcow2_store.proofs.discarding.store.Tie as tie

@@ -1,7 +1,7 @@
 use borrow.Author.Needs.{needs}
 use native.Mathlib.Omega.{arith}
 use denote.Ref.{now}
-use Rattle.qcow2_store.proofs.Sizes.{inside-at}
+use Rattle.qcow2_counts.proofs.Sizes.{inside-at}
 use Rattle.qcow2_store.proofs.Writes.{full, newly}
 use Rattle.qcow2_store.proofs.finding.find_new.Statement.{statement}
 use Rattle.qcow2_store.proofs.finding.find_new.Tie as tie

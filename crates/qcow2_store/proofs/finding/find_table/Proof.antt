@@ -3,7 +3,7 @@ use denote.Ref.{now}
 use Prim.Native.Nat.{_+_}
 use mathlib.Core.Path.{_≡_}
 use Rattle.qcow2_spec.specs.Counts.{freeFrom}
-use Rattle.qcow2_store.proofs.Sizes.{sizes}
+use Rattle.qcow2_counts.proofs.Sizes.{sizes}
 use Rattle.qcow2_store.proofs.Writes.{free-most, free-least, full-table, tabled}
 use Rattle.qcow2_store.proofs.finding.find_table.Statement.{statement}
 use Rattle.qcow2_store.proofs.finding.find_table.Tie as tie

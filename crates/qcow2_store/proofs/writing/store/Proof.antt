@@ -3,7 +3,7 @@ use native.Mathlib.Omega.{arith}
 use denote.Ref.{now}
 use Prim.Native.Nat.{_^_}
 use Rattle.qcow2_store.specs.Jobs.{jobUnits}
-use Rattle.qcow2_store.proofs.Clears.{within, clear-first}
+use Rattle.qcow2_put.proofs.Clears.{within, clear-first}
 use Rattle.qcow2_store.proofs.Writes.{job-some}
 use Rattle.qcow2_store.proofs.writing.store.Statement.{statement}
 use Rattle.qcow2_store.proofs.writing.store.Tie as tie

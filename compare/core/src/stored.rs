@@ -1,0 +1,256 @@
+//! The C interface itself: the numbers that each call stores beside each of its
+//! answers, and that a refusal stores 0 and changes no lent byte and no row.
+
+use made::breaks::{break_header, ORDER};
+use made::image::{Kind, Made, USED};
+use made::plan::bench_image;
+use made::rng::Rng;
+
+use crate::ffi;
+
+const ALL: u64 = u64::MAX;
+/// What the numbers hold before a call; no call gives it.
+const HELD: u64 = 0xC3C3_C3C3_C3C3_C3C3;
+const CLUSTERS: usize = 16;
+/// L1 entry 1 has the table of the guest clusters from 64 on.
+const GUEST: u64 = 64;
+const OFFSET: u64 = GUEST * 512;
+
+/// A call, with how much of the scratch it is lent and its allowance.
+#[derive(Clone, Copy, Debug)]
+enum Call {
+    Translate(u64),
+    Read(u64),
+    Runs { offset: u64, len: u64, room: usize },
+    Write { offset: u64, allowance: u64 },
+    Discard { cluster: u64, allowance: u64 },
+    Repair { scratch: usize, allowance: u64 },
+    Check { scratch: usize },
+}
+
+/// All that a call is lent but its numbers.
+#[derive(Clone, PartialEq)]
+struct Lent {
+    image: Vec<u8>,
+    bytes: [u8; 3],
+    rows: [u64; 9],
+    scratch: [u8; CLUSTERS + 1],
+}
+
+impl Lent {
+    fn of(made: &Made) -> Lent {
+        let scratch = [0x5A; CLUSTERS + 1];
+        Lent { image: made.bytes.clone(), bytes: *b"abc", rows: [HELD; 9], scratch }
+    }
+
+    /// Makes the call; its answer, and its numbers after it.
+    fn call(&mut self, call: Call) -> (u32, Vec<u64>) {
+        let (image, n) = (self.image.as_mut_ptr(), self.image.len());
+        let (bytes, len) = (self.bytes.as_mut_ptr(), self.bytes.len());
+        let (rows, figures) = (self.rows.as_mut_ptr(), self.scratch.as_mut_ptr());
+        let [a, b] = &mut [HELD; 2];
+        // SAFETY: see the head of lib.rs; no call is lent more rows or scratch than there are.
+        let code = unsafe {
+            match call {
+                Call::Translate(offset) => ffi::qcow2_translate(image, n, offset, a),
+                Call::Read(offset) => ffi::qcow2_read(image, n, offset, bytes, len),
+                Call::Runs { offset, len, room } => {
+                    assert!(room <= self.rows.len());
+                    ffi::qcow2_runs(image, n, offset, len, rows, room, a)
+                }
+                Call::Write { offset, allowance } => {
+                    ffi::qcow2_write(image, n, offset, bytes, len, allowance, a)
+                }
+                Call::Discard { cluster, allowance } => {
+                    ffi::qcow2_discard(image, n, cluster, allowance, a)
+                }
+                Call::Repair { scratch, allowance } => {
+                    assert!(scratch <= self.scratch.len());
+                    ffi::qcow2_repair(image, n, figures, scratch, allowance, a)
+                }
+                Call::Check { scratch } => {
+                    assert!(scratch <= self.scratch.len());
+                    ffi::qcow2_check(image, n, figures, scratch, a, b)
+                }
+            }
+        };
+        let numbers = match call {
+            Call::Read(_) => vec![],
+            Call::Check { .. } => vec![*a, *b],
+            _ => vec![*a],
+        };
+        (code, numbers)
+    }
+}
+
+/// One call on a fresh copy of the image.
+fn answer(made: &Made, call: Call) -> (u32, Vec<u64>) {
+    Lent::of(made).call(call)
+}
+
+/// The call is refused with `number`: its numbers are 0, all else is as it was.
+fn refused(made: &Made, call: Call, number: u32) {
+    let (mut lent, before) = (Lent::of(made), Lent::of(made));
+    let (code, numbers) = lent.call(call);
+    assert_eq!(code, number, "{call:?}");
+    assert!(numbers.iter().all(|&stored| stored == 0), "{call:?} stored {numbers:?}");
+    assert!(lent == before, "{call:?} changed what it was lent");
+}
+
+/// The bench image with an L2 table in cluster 4: data in cluster 5, zeros, and
+/// not allocated from there on.
+fn sound() -> Made {
+    let (mut made, mut rng) = (bench_image(), Rng::new(7));
+    let table = made.add_table(1).expect("room for a table");
+    assert_eq!(table, 4 * 512);
+    assert!(made.add_entry(table, 0, Kind::Data, &mut rng));
+    assert!(made.add_entry(table, 1, Kind::ZerosWithoutPlace, &mut rng));
+    made
+}
+
+/// The same with one more L2 entry, for the guest cluster after the zeros.
+fn with_entry(entry: u64) -> Made {
+    let mut made = sound();
+    made.put64(4 * 512 + 8 * 2, entry);
+    made
+}
+
+/// The same with another stored count.
+fn with_count(cluster: usize, count: u64) -> Made {
+    let mut made = sound();
+    made.set_count(cluster, count);
+    made
+}
+
+const COMPRESSED: u64 = 1 << 62;
+const BAD: u64 = 2;
+const AFTER_ZEROS: u64 = OFFSET + 1024;
+
+fn check(made: &Made) -> (u32, Vec<u64>) {
+    answer(made, Call::Check { scratch: CLUSTERS })
+}
+
+#[test]
+fn host() {
+    let made = sound();
+    assert_eq!(answer(&made, Call::Translate(OFFSET + 3)), (0, vec![5 * 512 + 3]));
+    assert_eq!(answer(&made, Call::Translate(OFFSET + 512)), (answers::ZEROS, vec![0]));
+    assert_eq!(answer(&made, Call::Translate(OFFSET + 1024)), (answers::ABSENT, vec![0]));
+    assert_eq!(answer(&made, Call::Translate(0)), (answers::ABSENT, vec![0]));
+}
+
+#[test]
+fn count() {
+    let made = sound();
+    let runs = |len, room| answer(&made, Call::Runs { offset: OFFSET, len, room });
+    assert_eq!(runs(2048, 9), (0, vec![3]));
+    assert_eq!(runs(2048, 8), (0, vec![2]));
+    assert_eq!(runs(2048, 2), (0, vec![0]));
+    assert_eq!(runs(0, 9), (0, vec![0]));
+}
+
+#[test]
+fn units() {
+    let made = sound();
+    let write = |offset, allowance| answer(&made, Call::Write { offset, allowance });
+    assert_eq!(write(OFFSET, ALL), (0, vec![3]));
+    assert_eq!(write(OFFSET, 1 << 32), (0, vec![3]));
+    assert_eq!(write(OFFSET, 2), (ffi::STOPPED, vec![2]));
+    assert_eq!(write(OFFSET, 0), (ffi::STOPPED, vec![0]));
+    let discard = |cluster, allowance| answer(&made, Call::Discard { cluster, allowance });
+    assert_eq!(discard(GUEST, ALL), (0, vec![2]));
+    assert_eq!(discard(GUEST, 1), (ffi::STOPPED, vec![1]));
+    assert_eq!(discard(0, ALL), (0, vec![0]));
+    let repair = |made, allowance| answer(made, Call::Repair { scratch: CLUSTERS, allowance });
+    let leaking = with_count(9, 3);
+    assert_eq!(repair(&leaking, ALL), (0, vec![1]));
+    assert_eq!(repair(&leaking, 0), (ffi::STOPPED, vec![0]));
+    assert_eq!(repair(&made, ALL), (0, vec![0]));
+}
+
+#[test]
+fn first_and_second() {
+    assert_eq!(check(&sound()), (0, vec![0, 0]));
+    assert_eq!(check(&with_count(9, 3)), (ffi::LEAKS, vec![1, 0]));
+    assert_eq!(check(&with_entry(BAD)), (ffi::BAD_L2, vec![1, 2]));
+    assert_eq!(check(&with_entry(USED | 5 * 512)), (ffi::SHARED, vec![5, 0]));
+    assert_eq!(check(&with_count(5, 0)), (ffi::SHORT, vec![5, 0]));
+    let mut made = sound();
+    made.put64(made.l1_entry(1), 1);
+    assert_eq!(check(&made), (ffi::BAD_L1, vec![1, 0]));
+}
+
+#[test]
+fn refused_requests() {
+    let made = sound();
+    let end = made.size;
+    refused(&made, Call::Translate(end), 11);
+    refused(&made, Call::Read(end - 2), 11);
+    refused(&made, Call::Runs { offset: end, len: 1, room: 9 }, 11);
+    refused(&made, Call::Write { offset: 510, allowance: ALL }, 11);
+    refused(&made, Call::Discard { cluster: end / 512, allowance: ALL }, 11);
+    refused(&made, Call::Repair { scratch: CLUSTERS - 1, allowance: ALL }, 15);
+    refused(&made, Call::Check { scratch: CLUSTERS - 1 }, 15);
+    refused(&with_count(5, 0), Call::Discard { cluster: GUEST, allowance: ALL }, 16);
+    let mut full = sound();
+    (6..CLUSTERS).for_each(|cluster| full.set_count(cluster, 1));
+    refused(&full, Call::Write { offset: 0, allowance: ALL }, 14);
+    refused(&full, Call::Write { offset: AFTER_ZEROS, allowance: ALL }, 14);
+}
+
+#[test]
+fn refused_on_the_way() {
+    for (entry, number) in [(BAD, 12), (COMPRESSED, 13)] {
+        let made = with_entry(entry);
+        refused(&made, Call::Translate(AFTER_ZEROS), number);
+        refused(&made, Call::Read(AFTER_ZEROS - 2), number);
+        refused(&made, Call::Write { offset: AFTER_ZEROS, allowance: ALL }, number);
+        refused(&made, Call::Discard { cluster: GUEST + 2, allowance: ALL }, number);
+    }
+}
+
+/// 17 alone changes something: the scratch, as the check does.
+#[test]
+fn repair_of_damage() {
+    let shared = USED | 5 * 512;
+    for (made, figure) in [(with_entry(BAD), 1), (with_entry(shared), 2), (with_count(5, 0), 1)] {
+        let (mut lent, mut wanted) = (Lent::of(&made), Lent::of(&made));
+        let repair = Call::Repair { scratch: CLUSTERS + 1, allowance: ALL };
+        assert_eq!(lent.call(repair), (17, vec![0]));
+        wanted.scratch[..5].fill(1);
+        wanted.scratch[5] = figure;
+        wanted.scratch[6..CLUSTERS].fill(0);
+        assert!(lent == wanted, "not the figures, or other bytes");
+    }
+}
+
+#[test]
+fn refused_headers() {
+    let mut rng = Rng::from_env("refused headers", 71);
+    for _ in 0..20 {
+        for number in ORDER {
+            let mut made = sound();
+            if break_header(&mut made, number, &mut rng) {
+                refused_by_all(&made, number);
+            }
+        }
+    }
+}
+
+/// Every call is refused with the header's number; a lookup gives no bytes.
+fn refused_by_all(made: &Made, number: u32) {
+    for call in [
+        Call::Translate(OFFSET),
+        Call::Read(OFFSET),
+        Call::Runs { offset: OFFSET, len: 512, room: 9 },
+        Call::Write { offset: OFFSET, allowance: ALL },
+        Call::Discard { cluster: GUEST, allowance: ALL },
+        Call::Repair { scratch: CLUSTERS + 1, allowance: ALL },
+        Call::Check { scratch: CLUSTERS + 1 },
+    ] {
+        refused(made, call, number);
+    }
+    // SAFETY: see the head of lib.rs.
+    let bytes = unsafe { ffi::qcow2_lookup(made.bytes.as_ptr(), made.bytes.len(), OFFSET) };
+    assert_eq!(bytes, 0);
+}

@@ -1,0 +1,329 @@
+-- What a discard, a repair and the four kinds of write store, and what every cut of them leaves. Assumes nothing.
+use mathlib.Core.Path.{_≡_, refl, sym, ap, _∙_}
+use mathlib.Core.Logic.{_⊎_, inl, inr, _≢_}
+use mathlib.Core.Bool.{false}
+use mathlib.Core.List.{List, [], _∷_}
+use Prim.Native.Nat.{ℕ, zero, suc, _+_, _-_, _*_, _/_, _%_, _^_, _≤_, _<_}
+use native.Mathlib.Nat.{div-lt-iff-lt-mul, mod-lt, zero-lt-suc, mul-le-mul-right}
+use native.Mathlib.Decide.{ℕ-discrete}
+use native.Mathlib.Omega.{arith}
+use lib.ListN.{length, set}
+use lib.Seq.{sets, length-sets}
+use lib.Pow.{pow-lt}
+use Rattle.cuts.proofs.Refs.{hit, hit-self, hit-zero, refs, refs-same, refs-entry, refs-fix, free-tab, dat-tab}
+use Rattle.cuts.proofs.Cell.{enc, length-enc, small-enc, recell, length-recell, small-recell, cell-small, Small, Stored, stored, mem}
+use Rattle.cuts.proofs.Meta.{Geo, GeoOk, Codec, cell-in, rt, blk, cnt, fix, tab, dat, refsOf, Sound, Keep, dat-none, keep-sound, blk-0, fix-blk}
+use Rattle.cuts.proofs.Step.{shown, gread, gread-none, Quiet, tab-in, dat-in, fix-one, free-not-0, quiet-sound, free-step, count-step, fix-same, entry-rt, entry-blk, entry-tab, entry-cnt, entry-dat, entry-dat-new, entry-sound, entry-reads, entry-read}
+use Rattle.cuts.proofs.Run.{Store, apply, Run, run-none, run-cons}
+
+-- m0 is the first image: the header, but for its idle bytes, and the refcount table stay what they were there
+pub record Ok (g : Geo) (K : Codec) (m0 : ℕ → ℕ → ℕ) (img : List ℕ) : Type 0 where
+  pub len : length img ≡ g .N * g .C
+  pub small : Small img
+  pub sound : Sound g K (mem (g .C) img)
+  pub head : (x : ℕ) → x < g .C → (x < g .idle) ⊎ (g .busy ≤ x) → mem (g .C) img 0 x ≡ m0 0 x
+  pub table : (k : ℕ) → k < g .rtn * g .E → rt g (mem (g .C) img) k ≡ rt g m0 k
+
+pub small-set : (l : List ℕ) (i v : ℕ) → Small l → v < 256 → Small (set l i v)
+small-set [] i v p q x = p x
+small-set (y ∷ l) zero v p q zero = q
+small-set (y ∷ l) zero v p q (suc x) = p (suc x)
+small-set (y ∷ l) (suc i) v p q zero = p zero
+small-set (y ∷ l) (suc i) v p q (suc x) = small-set l i v (λ z. p (suc z)) q x
+
+pub small-sets : (vs l : List ℕ) (i : ℕ) → Small l → Small vs → Small (sets l i vs)
+small-sets [] l i p q = p
+small-sets (v ∷ vs) l i p q = small-sets vs (set l i v) (suc i) (small-set l i v p (q zero)) (λ z. q (suc z))
+
+pub shown-none : (d f b : ℕ) → d ≡ 0 → shown d f b ≡ 0
+unfolding shown
+shown-none d f b e = ap (λ (y : ℕ). shown y f b) e
+
+module _ (g : Geo) where
+  unfoldable pub countStore : (ℕ → ℕ → ℕ) → ℕ → ℕ → Store
+  countStore m c v = record { part = false; w = blk g m (c / g .H); o = g .W * (c % g .H) / 8; bs = λ f. recell (g .W) f (g .W * (c % g .H)) v }
+
+  unfoldable pub entryStore : ℕ → ℕ → ℕ → Store
+  entryStore t j v = record { part = false; w = t; o = 8 * j; bs = λ f. enc 8 v }
+
+  unfoldable pub linkStore : ℕ → ℕ → Store
+  linkStore i v = record { part = false; w = g .l1c + i / g .E; o = 8 * (i % g .E); bs = λ f. enc 8 v }
+
+  -- none is a byte of a fill
+  pub count-whole : (m : ℕ → ℕ → ℕ) (c v : ℕ) → countStore m c v .part ≡ false
+  unfolding countStore
+  count-whole m c v = refl
+
+  pub entry-whole : (t j v : ℕ) → entryStore t j v .part ≡ false
+  unfolding entryStore
+  entry-whole t j v = refl
+
+  pub link-whole : (i v : ℕ) → linkStore i v .part ≡ false
+  unfolding linkStore
+  link-whole i v = refl
+
+-- what the guest reads in img and in img′
+module _ (g : Geo) (K : Codec) where
+  unfoldable pub SameGuest : List ℕ → List ℕ → Type 0
+  SameGuest img img′ = (i j x : ℕ) → i < g .L → j < g .E → x < g .C → gread g K (mem (g .C) img′) i j x ≡ gread g K (mem (g .C) img) i j x
+
+  pub record Zeroed (i j : ℕ) (img img′ : List ℕ) : Type 0 where
+    pub other : (a b x : ℕ) → a < g .L → b < g .E → x < g .C → (a ≢ i) ⊎ (b ≢ j) → gread g K (mem (g .C) img′) a b x ≡ gread g K (mem (g .C) img) a b x
+    pub here : (x : ℕ) → x < g .C → gread g K (mem (g .C) img′) i j x ≡ 0
+
+module _ (g : Geo) (K : Codec) (ok : GeoOk g K) (m0 : ℕ → ℕ → ℕ) where
+  -- a store in a cluster that is not the header's
+  pub ok-next : (img : List ℕ) (w o : ℕ) (bs : List ℕ) → Ok g K m0 img → w ≢ 0 → Small bs
+      → Stored (g .C) (mem (g .C) img) (mem (g .C) (sets img (w * g .C + o) bs)) w o bs
+      → ((k : ℕ) → k < g .rtn * g .E → rt g (mem (g .C) (sets img (w * g .C + o) bs)) k ≡ rt g (mem (g .C) img) k)
+      → Sound g K (mem (g .C) (sets img (w * g .C + o) bs)) → Ok g K m0 (sets img (w * g .C + o) bs)
+  ok-next img w o bs k d sm st r s =
+      record {
+        len = length-sets img (w * g .C + o) bs ∙ k .len;
+        small = small-sets bs img (w * g .C + o) (k .small) sm;
+        sound = s;
+        head = λ x l b. st .cluster 0 x l (λ e. d (sym e)) ∙ k .head x l b;
+        table = λ a l. r a l ∙ k .table a l;
+      }
+
+  module _ (img : List ℕ) (k : Ok g K m0 img) (w o : ℕ) (bs : List ℕ) (wN : w < g .N) (inC : o + length bs ≤ g .C) (sm : Small bs) where
+    pub next-small : (a x : ℕ) → mem (g .C) (sets img (w * g .C + o) bs) a x < 256
+    next-small a x = small-sets bs img (w * g .C + o) (k .small) sm (a * g .C + x)
+
+    pub next-stored : Stored (g .C) (mem (g .C) img) (mem (g .C) (sets img (w * g .C + o) bs)) w o bs
+    next-stored = stored (g .C) img w o bs (omega (arith, k .len, mul-le-mul-right (g .C) wN)) inC
+
+    -- into a cluster that nothing refers to
+    pub next-free : refsOf g K (mem (g .C) img) w ≡ 0
+        → Ok g K m0 (sets img (w * g .C + o) bs) × Quiet g K (mem (g .C) img) (mem (g .C) (sets img (w * g .C + o) bs))
+    next-free f = (ok-next img w o bs k (free-not-0 g K ok (mem (g .C) img) (k .sound) w f) sm next-stored (q .keep .rts) (quiet-sound g K ok (mem (g .C) img) (k .sound) _ next-small q), q)
+      where
+        q : Quiet g K (mem (g .C) img) (mem (g .C) (sets img (w * g .C + o) bs))
+        q = free-step g K ok (mem (g .C) img) (k .sound) (mem (g .C) (sets img (w * g .C + o) bs)) next-small w f (next-stored .cluster)
+
+  -- one count, to no less than the references
+  pub record CountSet (img img′ : List ℕ) (c v : ℕ) : Type 0 where
+    pub fine : Ok g K m0 img′
+    pub keep : Keep g K (mem (g .C) img) (mem (g .C) img′)
+    pub new : cnt g (mem (g .C) img′) c ≡ v
+    pub rest : (x : ℕ) → x < g .N → x ≢ c → cnt g (mem (g .C) img′) x ≡ cnt g (mem (g .C) img) x
+    pub reads : (i j x : ℕ) → i < g .L → j < g .E → x < g .C → gread g K (mem (g .C) img′) i j x ≡ gread g K (mem (g .C) img) i j x
+    pub free : (a x : ℕ) → x < g .C → refsOf g K (mem (g .C) img) a ≡ 0 → mem (g .C) img′ a x ≡ mem (g .C) img a x
+
+  pub next-count : (img : List ℕ) (k : Ok g K m0 img) (c v : ℕ) → c < g .N → v < 2 ^ g .W → refsOf g K (mem (g .C) img) c ≤ v
+      → CountSet img (apply (g .C) (countStore g (mem (g .C) img) c v) img) c v
+  unfolding apply countStore
+  next-count img k c v cN lv h =
+      record {
+        fine = ok-next img w o bs k w0 small st (r .0 .rts) sd;
+        keep = r .0;
+        new = r .1;
+        rest = r .2;
+        reads = r .3;
+        free = λ a x q f. st .cluster a x q (λ e. omega (arith, fix-blk g m a (c / g .H) cB e, refs-fix (g .L) (g .E) (fix g m) (tab g K m) (dat g K m) a));
+      }
+    where
+      m : ℕ → ℕ → ℕ
+      m = mem (g .C) img
+
+      w : ℕ
+      w = blk g m (c / g .H)
+
+      o : ℕ
+      o = g .W * (c % g .H) / 8
+
+      bs : List ℕ
+      bs = recell (g .W) (m w) (g .W * (c % g .H)) v
+
+      small : Small bs
+      small = small-recell (g .W) (m w) (g .W * (c % g .H)) v
+
+      cB : c / g .H < g .B
+      cB = div-lt-iff-lt-mul (ok .hpos) .1 (omega (arith, ok .blocks))
+
+      wN : w < g .N
+      wN = k .sound .blkin (c / g .H) cB
+
+      w0 : w ≢ 0
+      w0 = blk-0 g m w (c / g .H) cB (fix-one g K ok m (k .sound) w wN) refl
+
+      fits : o + length bs ≤ g .C
+      fits = omega (arith, length-recell (g .W) (m w) (g .W * (c % g .H)) v, cell-in g K ok m m w (λ a x q d. refl) (c % g .H) (mod-lt c (ok .hpos)))
+
+      m′ : ℕ → ℕ → ℕ
+      m′ = mem (g .C) (sets img (w * g .C + o) bs)
+
+      st : Stored (g .C) m m′ w o bs
+      st = next-stored img k w o bs wN fits small
+
+      r : Keep g K m m′ × (cnt g m′ c ≡ v) × ((x : ℕ) → x < g .N → x ≢ c → cnt g m′ x ≡ cnt g m x)
+          × ((i j x : ℕ) → i < g .L → j < g .E → x < g .C → gread g K m′ i j x ≡ gread g K m i j x)
+      r = count-step g K ok m (k .sound) m′ (next-small img k w o bs wN fits small) c v cN lv st
+
+      sd : Sound g K m′
+      sd = keep-sound g K ok m m′ (k .sound) (r .0) (λ x l. go x l (ℕ-discrete x c))
+        where
+          go : (x : ℕ) → x < g .N → Dec (x ≡ c) → refsOf g K m x ≤ cnt g m′ x
+          go x l (yes e) = rw (e, r .1) h
+          go x l (no d) = rw (r .2 x l d) (k .sound .inv .covered x l)
+
+  -- one L2 entry
+  pub record Entered (img img′ : List ℕ) (i j v : ℕ) : Type 0 where
+    pub fine : Ok g K m0 img′
+    pub blks : (a : ℕ) → a < g .B → blk g (mem (g .C) img′) a ≡ blk g (mem (g .C) img) a
+    pub cnts : (c : ℕ) → c < g .N → cnt g (mem (g .C) img′) c ≡ cnt g (mem (g .C) img) c
+    pub moved : (c : ℕ) → refsOf g K (mem (g .C) img′) c + hit c (dat g K (mem (g .C) img) i j) ≡ refsOf g K (mem (g .C) img) c + hit c (K .clus v)
+    pub reads : (a b x : ℕ) → a < g .L → b < g .E → x < g .C → (a ≢ i) ⊎ (b ≢ j) → gread g K (mem (g .C) img′) a b x ≡ gread g K (mem (g .C) img) a b x
+    pub read : (x : ℕ) → x < g .C → gread g K (mem (g .C) img′) i j x ≡ shown (K .clus v) (K .flag v) (mem (g .C) img (K .clus v) x)
+
+  pub next-entry : (img : List ℕ) (k : Ok g K m0 img) (i j v : ℕ) → i < g .L → j < g .E → tab g K (mem (g .C) img) i ≢ 0 → K .good2 v → v < 256 ^ 8
+      → (K .clus v ≢ 0 → (refsOf g K (mem (g .C) img) (K .clus v) ≡ 0) × (1 ≤ cnt g (mem (g .C) img) (K .clus v))) ⊎ (K .clus v ≡ dat g K (mem (g .C) img) i j)
+      → Entered img (apply (g .C) (entryStore g (tab g K (mem (g .C) img) i) j v) img) i j v
+  unfolding apply entryStore
+  next-entry img k i j v l n t gv lv new =
+      record {
+        fine = ok-next img w o (enc 8 v) k t (small-enc 8 v) st (entry-rt g K ok m s m′ sm i j v l n t gv lv st) (entry-sound g K ok m s m′ sm i j v l n t gv lv st new);
+        blks = entry-blk g K ok m s m′ sm i j v l n t gv lv st;
+        cnts = entry-cnt g K ok m s m′ sm i j v l n t gv lv st;
+        moved = rf;
+        reads = entry-reads g K ok m s m′ sm i j v l n t gv lv st;
+        read = λ x h. rd x h new (ℕ-discrete (K .clus v) 0);
+      }
+    where
+      m : ℕ → ℕ → ℕ
+      m = mem (g .C) img
+
+      s : Sound g K m
+      s = k .sound
+
+      w : ℕ
+      w = tab g K m i
+
+      o : ℕ
+      o = 8 * j
+
+      wN : w < g .N
+      wN = tab-in g K ok m s i l
+
+      fits : o + length (enc 8 v) ≤ g .C
+      fits = omega (arith, ok .c8, length-enc 8 v)
+
+      m′ : ℕ → ℕ → ℕ
+      m′ = mem (g .C) (sets img (w * g .C + o) (enc 8 v))
+
+      sm : (a x : ℕ) → m′ a x < 256
+      sm = next-small img k w o (enc 8 v) wN fits (small-enc 8 v)
+
+      st : Stored (g .C) m m′ w o (enc 8 v)
+      st = next-stored img k w o (enc 8 v) wN fits (small-enc 8 v)
+
+      rf : (c : ℕ) → refsOf g K m′ c + hit c (dat g K m i j) ≡ refsOf g K m c + hit c (K .clus v)
+      rf c =
+          ap (λ (y : ℕ). y + hit c (dat g K m i j))
+          (ap (λ (f : ℕ → ℕ). refs (g .L) (g .E) f (tab g K m′) (dat g K m′) c) (fix-same g m m′ (entry-blk g K ok m s m′ sm i j v l n t gv lv st))
+          ∙ refs-same (g .L) (g .E) (fix g m) (tab g K m′) (tab g K m) (dat g K m′) (dat g K m′) (entry-tab g K ok m s m′ sm i j v l n t gv lv st) (λ a b p q. refl) c)
+          ∙ refs-entry (g .L) (g .E) (fix g m) (tab g K m) (dat g K m) (dat g K m′) i j l n (entry-dat g K ok m s m′ sm i j v l n t gv lv st) c
+          ∙ ap (λ (y : ℕ). refsOf g K m c + hit c y) (entry-dat-new g K ok m s m′ sm i j v l n t gv lv st)
+
+      rd : (x : ℕ) → x < g .C → (K .clus v ≢ 0 → (refsOf g K m (K .clus v) ≡ 0) × (1 ≤ cnt g m (K .clus v))) ⊎ (K .clus v ≡ dat g K m i j) → Dec (K .clus v ≡ 0)
+          → gread g K m′ i j x ≡ shown (K .clus v) (K .flag v) (m (K .clus v) x)
+      rd x h f (yes z) = gread-none g K m′ i j x (entry-dat-new g K ok m s m′ sm i j v l n t gv lv st ∙ z) ∙ sym (shown-none (K .clus v) (K .flag v) (m (K .clus v) x) z)
+      rd x h (inl f) (no d) = entry-read g K ok m s m′ sm i j v l n t gv lv st x h (free-tab (g .L) (g .E) (fix g m) (tab g K m) (dat g K m) (K .clus v) (f d .0) d i l)
+      rd x h (inr e) (no d) = entry-read g K ok m s m′ sm i j v l n t gv lv st x h
+          (λ y. dat-tab (g .N) (g .L) (g .E) (fix g m) (tab g K m) (dat g K m) (cnt g m) (s .inv) i j i l n l (λ z. d (e ∙ z)) (dat-in g K ok m s i j l n) (sym e ∙ y))
+
+  -- ---- a discard
+  pub zeroed-then : (i j : ℕ) (img img′ img″ : List ℕ) → Zeroed g K i j img img′ → i < g .L → j < g .E
+      → ((a b x : ℕ) → a < g .L → b < g .E → x < g .C → gread g K (mem (g .C) img″) a b x ≡ gread g K (mem (g .C) img′) a b x) → Zeroed g K i j img img″
+  zeroed-then i j img img′ img″ z l n e = record { other = λ a b x p q h d. e a b x p q h ∙ z .other a b x p q h d; here = λ x h. e i j x l n h ∙ z .here x h }
+
+  pub cnt-small : (m : ℕ → ℕ → ℕ) (c : ℕ) → cnt g m c < 2 ^ g .W
+  unfolding cnt
+  cnt-small m c = cell-small (g .W) (m (blk g m (c / g .H))) (g .W * (c % g .H))
+
+  -- 1 is a count of any width
+  pub one-fits : 1 < 2 ^ g .W
+  one-fits = pow-lt (ok .wpos)
+
+  pub count-store-same : (m m′ : ℕ → ℕ → ℕ) (c v : ℕ) → blk g m′ (c / g .H) ≡ blk g m (c / g .H) → countStore g m′ c v ≡ countStore g m c v
+  unfolding countStore
+  count-store-same m m′ c v e = λ q. record { part = false; w = e q; o = g .W * (c % g .H) / 8; bs = λ f. recell (g .W) f (g .W * (c % g .H)) v }
+
+  pub in-blocks : (c : ℕ) → c < g .N → c / g .H < g .B
+  in-blocks c l = div-lt-iff-lt-mul (ok .hpos) .1 (omega (arith, ok .blocks))
+
+  -- the count of c, its place worked out from an image with the same blocks
+  pub then-count : (img₀ img : List ℕ) (k : Ok g K m0 img) (c v : ℕ) → c < g .N → v < 2 ^ g .W → refsOf g K (mem (g .C) img) c ≤ v
+      → ((a : ℕ) → a < g .B → blk g (mem (g .C) img) a ≡ blk g (mem (g .C) img₀) a)
+      → CountSet img (apply (g .C) (countStore g (mem (g .C) img₀) c v) img) c v
+  then-count img₀ img k c v l lv h e = rw (count-store-same (mem (g .C) img₀) (mem (g .C) img) c v (e (c / g .H) (in-blocks c l))) at (next-count img k c v l lv h)
+
+  abbrev pub MidZ : ℕ → ℕ → List ℕ → List ℕ → Type 0
+  MidZ i j img s = Ok g K m0 s × (SameGuest g K img s ⊎ Zeroed g K i j img s)
+
+  abbrev pub EndZ : ℕ → ℕ → List ℕ → List ℕ → Type 0
+  EndZ i j img s = Ok g K m0 s × Zeroed g K i j img s
+
+  module _ (img : List ℕ) (k : Ok g K m0 img) (i j : ℕ) (l : i < g .L) (n : j < g .E) where
+    -- place given: the entry becomes 0, then the count falls by one
+    pub discard-run : dat g K (mem (g .C) img) i j ≢ 0
+        → Run (g .C) (MidZ i j img)
+        (entryStore g (tab g K (mem (g .C) img) i) j 0 ∷ countStore g (mem (g .C) img) (dat g K (mem (g .C) img) i j) (cnt g (mem (g .C) img) (dat g K (mem (g .C) img) i j) - 1) ∷ [])
+        img (EndZ i j img)
+    unfolding SameGuest
+    discard-run d =
+        run-cons (g .C) (MidZ i j img) _ _ img (EndZ i j img) (entry-whole g _ _ _) (k, inl (λ a b x p q h. refl))
+        (run-cons (g .C) (MidZ i j img) _ _ img₁ (EndZ i j img) (count-whole g _ _ _) (e .fine, inr z₁)
+        (run-none (g .C) (MidZ i j img) img₂ (EndZ i j img) (c₂ .fine, inr z₂) (c₂ .fine, z₂)))
+      where
+        m : ℕ → ℕ → ℕ
+        m = mem (g .C) img
+
+        c : ℕ
+        c = dat g K m i j
+
+        v : ℕ
+        v = cnt g m c - 1
+
+        t : tab g K m i ≢ 0
+        t z = d (dat-none g K m i j z)
+
+        img₁ : List ℕ
+        img₁ = apply (g .C) (entryStore g (tab g K m i) j 0) img
+
+        e : Entered img img₁ i j 0
+        e = next-entry img k i j 0 l n t (ok .laws .zero-good2) (zero-lt-suc _) (inl (λ f. absurd (f (ok .laws .zero-clus))))
+
+        z₁ : Zeroed g K i j img img₁
+        z₁ = record { other = e .reads; here = λ x h. e .read x h ∙ shown-none (K .clus 0) (K .flag 0) (m (K .clus 0) x) (ok .laws .zero-clus) }
+
+        img₂ : List ℕ
+        img₂ = apply (g .C) (countStore g m c v) img₁
+
+        cN : c < g .N
+        cN = dat-in g K ok m (k .sound) i j l n
+
+        c₂ : CountSet img₁ img₂ c v
+        c₂ = then-count img img₁ (e .fine) c v cN (omega (arith, cnt-small m c))
+            (omega (arith, e .moved c, hit-self c d, ap (hit c) (ok .laws .zero-clus), hit-zero c, k .sound .inv .single c cN)) (e .blks)
+
+        z₂ : Zeroed g K i j img img₂
+        z₂ = zeroed-then i j img img₁ img₂ z₁ l n (c₂ .reads)
+
+    -- a zero mark with no place
+    pub unmark-run : tab g K (mem (g .C) img) i ≢ 0 → dat g K (mem (g .C) img) i j ≡ 0
+        → Run (g .C) (MidZ i j img) (entryStore g (tab g K (mem (g .C) img) i) j 0 ∷ []) img (EndZ i j img)
+    unfolding SameGuest
+    unmark-run t d = run-cons (g .C) (MidZ i j img) _ _ img (EndZ i j img) (entry-whole g _ _ _) (k, inl (λ a b x p q h. refl)) (run-none (g .C) (MidZ i j img) img₁ (EndZ i j img) (e .fine, inr z₁) (e .fine, z₁))
+      where
+        m : ℕ → ℕ → ℕ
+        m = mem (g .C) img
+
+        img₁ : List ℕ
+        img₁ = apply (g .C) (entryStore g (tab g K m i) j 0) img
+
+        e : Entered img img₁ i j 0
+        e = next-entry img k i j 0 l n t (ok .laws .zero-good2) (zero-lt-suc _) (inl (λ f. absurd (f (ok .laws .zero-clus))))
+
+        z₁ : Zeroed g K i j img img₁
+        z₁ = record { other = e .reads; here = λ x h. e .read x h ∙ shown-none (K .clus 0) (K .flag 0) (m (K .clus 0) x) (ok .laws .zero-clus) }

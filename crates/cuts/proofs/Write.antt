@@ -1,0 +1,624 @@
+-- The lists of a write: what holds after every cut of them. Assumes nothing.
+use mathlib.Core.Path.{_≡_, refl, sym, ap, _∙_}
+use mathlib.Core.Logic.{_⊎_, inl, inr, _≢_}
+use mathlib.Core.List.{List, [], _∷_, _++_}
+use Prim.Native.Nat.{ℕ, zero, suc, _+_, _-_, _*_, _/_, _%_, _^_, _≤_, _<_}
+use native.Mathlib.Nat.{div-lt-iff-lt-mul, mod-lt, zero-lt-suc, add-assoc}
+use native.Mathlib.Decide.{ℕ-discrete}
+use native.Mathlib.Omega.{arith}
+use lib.ListN.{length, getD}
+use lib.Seq.{sets}
+use Rattle.cuts.proofs.Refs.{refs-fix}
+use Rattle.cuts.proofs.Cell.{num, enc, length-enc, small-enc, Small, Stored, mem}
+use Rattle.cuts.proofs.Meta.{Geo, GeoOk, Codec, cnt, l2, fix, tab, dat, refsOf, Sound, Keep, dat-none, keep-blk, keep-tab, keep-dat, keep-refs, keep-sound, l1-0, fix-l1}
+use Rattle.cuts.proofs.Step.{shown, gread, gread-none, Quiet, dat-in, fix-one, free-not-0, data-step, link-rt, link-sound, link-reads, link-zeros, link-read}
+use Rattle.cuts.proofs.Run.{apply, fill, starts, Run, run-none, run-cons, run-append, run-fill, small-mix}
+use lib.ListN.{replicate, length-replicate, length-append, List·getD-append}
+use lib.Seq.{getD-append-add}
+use Rattle.cuts.proofs.Cell.{small-append, stored-num, stored-apart}
+use Rattle.cuts.proofs.Step.{gread-keep, pair-or, steps-apart}
+use native.Mathlib.Nat.{zero-add}
+use Rattle.cuts.proofs.Call.{Ok, countStore, entryStore, linkStore, count-whole, entry-whole, link-whole, ok-next, next-small, next-stored, next-free, CountSet, then-count, one-fits, Entered, next-entry, SameGuest}
+
+-- zeros around the data
+unfoldable pub around : ℕ → ℕ → List ℕ → List ℕ
+around C o bs = replicate o 0 ++ (bs ++ replicate (C - (o + length bs)) 0)
+
+pub length-around : (C o : ℕ) (bs : List ℕ) → o + length bs ≤ C → length (around C o bs) ≡ C
+unfolding around
+length-around C o bs h =
+    simp (length-append, length-replicate) (omega arith)
+
+zeros-at : (n x : ℕ) → _≡_ {A = ℕ} (getD (replicate n 0) x 0) 0
+zeros-at zero x = refl
+zeros-at (suc n) zero = refl
+zeros-at (suc n) (suc x) = zeros-at n x
+
+past-zeros : (o : ℕ) (l : List ℕ) (y : ℕ) → getD (replicate o 0 ++ l) (o + y) 0 ≡ getD l y 0
+past-zeros o l y = ap (λ (n : ℕ). getD (replicate o 0 ++ l) (n + y) 0) (sym (length-replicate o 0)) ∙ getD-append-add (replicate o 0) l y 0
+
+pub around-in : (C o : ℕ) (bs : List ℕ) (y : ℕ) → y < length bs → getD (around C o bs) (o + y) 0 ≡ getD bs y 0
+unfolding around
+around-in C o bs y l = past-zeros o (bs ++ replicate (C - (o + length bs)) 0) y ∙ List·getD-append bs (replicate (C - (o + length bs)) 0) 0 y l
+
+pub around-out : (C o : ℕ) (bs : List ℕ) (x : ℕ) → (x < o) ⊎ (o + length bs ≤ x) → getD (around C o bs) x 0 ≡ 0
+unfolding around
+around-out C o bs x (inl h) =
+    List·getD-append (replicate o 0) (bs ++ replicate (C - (o + length bs)) 0) 0 x (rw (length-replicate {A = ℕ} o 0) h) ∙ zeros-at o x
+around-out C o bs x (inr h) =
+    ap (λ (n : ℕ). getD (replicate o 0 ++ (bs ++ replicate (C - (o + length bs)) 0)) n 0) e
+    ∙ past-zeros o (bs ++ replicate (C - (o + length bs)) 0) (length bs + (x - (o + length bs)))
+    ∙ getD-append-add bs (replicate (C - (o + length bs)) 0) (x - (o + length bs)) 0 ∙ zeros-at (C - (o + length bs)) (x - (o + length bs))
+  where
+    e : x ≡ o + (length bs + (x - (o + length bs)))
+    e = omega arith
+
+pub small-replicate : (n : ℕ) → Small (replicate n 0)
+small-replicate zero x = zero-lt-suc 255
+small-replicate (suc n) zero = zero-lt-suc 255
+small-replicate (suc n) (suc x) = small-replicate n x
+
+pub small-around : (C o : ℕ) (bs : List ℕ) → Small bs → Small (around C o bs)
+unfolding around
+small-around C o bs p = small-append (replicate o 0) (bs ++ replicate (C - (o + length bs)) 0) (small-replicate o) (small-append bs (replicate (C - (o + length bs)) 0) p (small-replicate (C - (o + length bs))))
+
+pub num-zeros : (k : ℕ) (f : ℕ → ℕ) (o : ℕ) → ((x : ℕ) → o ≤ x → x < o + k → f x ≡ 0) → num k f o ≡ 0
+unfolding num
+num-zeros zero f o h = refl
+num-zeros (suc k) f o h = omega (arith, num-zeros k f o (λ x a b. h x a (omega arith)), h (o + k) (omega arith) (omega arith))
+
+from-start : (f : ℕ → ℕ) (A : List ℕ) (x : ℕ) → f (0 + x) ≡ getD A x 0 → f x ≡ getD A x 0
+from-start f A x e = ap f (sym (zero-add x)) ∙ e
+
+pub shown-some : (p b : ℕ) → p ≢ 0 → shown p 0 b ≡ b
+unfolding shown
+shown-some zero b n = absurd (n refl)
+shown-some (suc p) b n = refl
+
+pub gread-shown : (g : Geo) (K : Codec) (m : ℕ → ℕ → ℕ) (i j x : ℕ) → dat g K m i j ≢ 0 → K .flag (l2 g m (tab g K m i) j) ≡ 0 → gread g K m i j x ≡ m (dat g K m i j) x
+unfolding gread
+gread-shown g K m i j x d f = rw f (shown-some (dat g K m i j) (m (dat g K m i j) x) d)
+
+pub gread-marked : (g : Geo) (K : Codec) (m : ℕ → ℕ → ℕ) (i j x : ℕ) → K .flag (l2 g m (tab g K m i) j) ≢ 0 → gread g K m i j x ≡ 0
+unfolding gread shown
+gread-marked g K m i j x d = go (dat g K m i j) (K .flag (l2 g m (tab g K m i) j)) (m (dat g K m i j) x) d
+  where
+    go : (p f b : ℕ) → f ≢ 0 → shown p f b ≡ 0
+    go zero f b n = refl
+    go (suc p) zero b n = absurd (n refl)
+    go (suc p) (suc f) b n = refl
+
+module _ (g : Geo) (K : Codec) where
+  pub record Wrote (i j o : ℕ) (bs : List ℕ) (img img′ : List ℕ) : Type 0 where
+    pub other : (a b x : ℕ) → a < g .L → b < g .E → x < g .C → (a ≢ i) ⊎ (b ≢ j) → gread g K (mem (g .C) img′) a b x ≡ gread g K (mem (g .C) img) a b x
+    pub inside : (y : ℕ) → y < length bs → gread g K (mem (g .C) img′) i j (o + y) ≡ getD bs y 0
+    pub outside : (x : ℕ) → x < g .C → (x < o) ⊎ (o + length bs ≤ x) → gread g K (mem (g .C) img′) i j x ≡ gread g K (mem (g .C) img) i j x
+
+  -- bytes are written, each of them the old or the one of bs
+  pub record Partly (i j o : ℕ) (bs : List ℕ) (img img′ : List ℕ) : Type 0 where
+    pub bytes : List ℕ
+    pub len : length bytes ≡ length bs
+    pub each : (y : ℕ) → y < length bs → (getD bytes y 0 ≡ gread g K (mem (g .C) img) i j (o + y)) ⊎ (getD bytes y 0 ≡ getD bs y 0)
+    pub wrote : Wrote i j o bytes img img′
+
+module _ (g : Geo) (K : Codec) (ok : GeoOk g K) (m0 : ℕ → ℕ → ℕ) where
+  -- nothing but counts and unreferenced clusters has changed since img
+  pub record Still (img s : List ℕ) : Type 0 where
+    pub fine : Ok g K m0 s
+    pub keep : Keep g K (mem (g .C) img) (mem (g .C) s)
+    pub reads : SameGuest g K img s
+
+  abbrev pub MidW : ℕ → ℕ → ℕ → List ℕ → List ℕ → List ℕ → Type 0
+  MidW i j o bs img s = Ok g K m0 s × (SameGuest g K img s ⊎ Wrote g K i j o bs img s)
+
+  abbrev pub EndW : ℕ → ℕ → ℕ → List ℕ → List ℕ → List ℕ → Type 0
+  EndW i j o bs img s = Ok g K m0 s × Wrote g K i j o bs img s
+
+  -- in place: each cut has stored some bytes of the data
+  abbrev pub MidP : ℕ → ℕ → ℕ → List ℕ → List ℕ → List ℕ → Type 0
+  MidP i j o bs img s = Ok g K m0 s × Partly g K i j o bs img s
+
+  module _ (img : List ℕ) (k : Ok g K m0 img) (i j o : ℕ) (bs : List ℕ) (l : i < g .L) (n : j < g .E) (inC : o + length bs ≤ g .C) (sm : Small bs) where
+    place-end : dat g K (mem (g .C) img) i j ≢ 0 → K .flag (l2 g (mem (g .C) img) (tab g K (mem (g .C) img) i) j) ≡ 0 → (vs : List ℕ) → o + length vs ≤ g .C → Small vs
+        → EndW i j o vs img (sets img (dat g K (mem (g .C) img) i j * g .C + o) vs)
+    place-end d f vs h p = (
+      ok-next g K ok m0 img w o vs k d p st (r .0 .rts) (keep-sound g K ok m m′ s (r .0) (λ c q. omega (arith, s .inv .covered c q, r .1 c q))),
+      record {
+        other = r .2;
+        inside = λ y q. gread-shown g K m′ i j (o + y) (λ z. d (sym dd ∙ z)) ff ∙ ap (λ (c : ℕ). m′ c (o + y)) dd ∙ st .inside y q;
+        outside = λ x q e. gread-keep g K ok m m′ (r .0) i j x l n (λ z. out x q e);
+      },
+    )
+      where
+        m : ℕ → ℕ → ℕ
+        m = mem (g .C) img
+
+        s : Sound g K m
+        s = k .sound
+
+        w : ℕ
+        w = dat g K m i j
+
+        m′ : ℕ → ℕ → ℕ
+        m′ = mem (g .C) (sets img (w * g .C + o) vs)
+
+        wN : w < g .N
+        wN = dat-in g K ok m s i j l n
+
+        st : Stored (g .C) m m′ w o vs
+        st = next-stored g K ok m0 img k w o vs wN h p
+
+        r : Keep g K m m′ × ((c : ℕ) → c < g .N → cnt g m′ c ≡ cnt g m c)
+            × ((a b x : ℕ) → a < g .L → b < g .E → x < g .C → (a ≢ i) ⊎ (b ≢ j) → gread g K m′ a b x ≡ gread g K m a b x)
+        r = data-step g K ok m s m′ (next-small g K ok m0 img k w o vs wN h p) i j l n d (st .cluster)
+
+        tt′ : tab g K m′ i ≡ tab g K m i
+        tt′ = keep-tab g K ok m m′ (r .0) i l
+
+        dd : dat g K m′ i j ≡ dat g K m i j
+        dd = keep-dat g K ok m m′ (r .0) i j l n
+
+        ff : K .flag (l2 g m′ (tab g K m′ i) j) ≡ 0
+        ff = rw (tt′, r .0 .l2s i j l n (λ z. d (dat-none g K m i j z))) f
+
+        out : (x : ℕ) → x < g .C → (x < o) ⊎ (o + length vs ≤ x) → m′ w x ≡ m w x
+        out x q (inl e) = st .before w x q e
+        out x q (inr e) = st .after w x q e
+
+    pub place-run : dat g K (mem (g .C) img) i j ≢ 0 → K .flag (l2 g (mem (g .C) img) (tab g K (mem (g .C) img) i) j) ≡ 0
+        → Run (g .C) (MidP i j o bs img) (fill (dat g K (mem (g .C) img) i j) o bs) img (EndW i j o bs img)
+    place-run d f =
+        run-fill (g .C) (MidP i j o bs img) (dat g K (mem (g .C) img) i j) o bs img (EndW i j o bs img)
+        (λ vs x. let r : EndW i j o vs img (sets img (dat g K (mem (g .C) img) i j * g .C + o) vs) = place-end d f vs (omega (arith, x .len)) (small-mix _ img bs vs (k .small) sm x) in
+        (r .0, record { bytes = vs; len = x .len; each = λ y q. seen vs y (x .each y q); wrote = r .1 }))
+        (place-end d f bs inC sm)
+      where
+        seen : (vs : List ℕ) (y : ℕ) → (getD vs y 0 ≡ getD img (dat g K (mem (g .C) img) i j * g .C + o + y) 0) ⊎ (getD vs y 0 ≡ getD bs y 0)
+            → (getD vs y 0 ≡ gread g K (mem (g .C) img) i j (o + y)) ⊎ (getD vs y 0 ≡ getD bs y 0)
+        seen vs y (inl e) = inl (e ∙ ap (λ (z : ℕ). getD img z 0) (add-assoc (dat g K (mem (g .C) img) i j * g .C) o y) ∙ sym (gread-shown g K (mem (g .C) img) i j (o + y) d f))
+        seen vs y (inr e) = inr e
+
+  pub keep-trans : (m m′ m″ : ℕ → ℕ → ℕ) → Keep g K m m′ → Keep g K m′ m″ → Keep g K m m″
+  keep-trans m m′ m″ a b =
+      record {
+        small = b .small;
+        rts = λ x l. b .rts x l ∙ a .rts x l;
+        l1s = λ x l. b .l1s x l ∙ a .l1s x l;
+        l2s = λ i j l n d. (rw (keep-tab g K ok m m′ a i l) at (b .l2s i j l n (λ z. d (sym (keep-tab g K ok m m′ a i l) ∙ z)))) ∙ a .l2s i j l n d;
+      }
+
+  pub still-start : (img : List ℕ) → Ok g K m0 img → Still img img
+  unfolding SameGuest
+  still-start img k =
+      record { fine = k; keep = record { small = k .sound .bytes; rts = λ x l. refl; l1s = λ x l. refl; l2s = λ i j l n d. refl }; reads = λ a b x p q h. refl }
+
+  pub still-refs : (img s : List ℕ) → Still img s → (c : ℕ) → refsOf g K (mem (g .C) s) c ≡ refsOf g K (mem (g .C) img) c
+  still-refs img s t = keep-refs g K ok (mem (g .C) img) (mem (g .C) s) (t .keep)
+
+  pub still-count : (img s : List ℕ) → Still img s → (c v : ℕ) → c < g .N → v < 2 ^ g .W → refsOf g K (mem (g .C) img) c ≤ v
+      → Still img (apply (g .C) (countStore g (mem (g .C) img) c v) s)
+      × (cnt g (mem (g .C) (apply (g .C) (countStore g (mem (g .C) img) c v) s)) c ≡ v)
+      × ((x : ℕ) → x < g .N → x ≢ c → cnt g (mem (g .C) (apply (g .C) (countStore g (mem (g .C) img) c v) s)) x ≡ cnt g (mem (g .C) s) x)
+      × ((a x : ℕ) → x < g .C → refsOf g K (mem (g .C) img) a ≡ 0 → mem (g .C) (apply (g .C) (countStore g (mem (g .C) img) c v) s) a x ≡ mem (g .C) s a x)
+  unfolding SameGuest
+  still-count img s t c v l lv h = (record { fine = r .fine; keep = keep-trans (mem (g .C) img) (mem (g .C) s) _ (t .keep) (r .keep); reads = λ a b x p q w. r .reads a b x p q w ∙ t .reads a b x p q w }, r .new, r .rest, λ a x q f. r .free a x q (still-refs img s t a ∙ f))
+    where
+      r : CountSet g K ok m0 s (apply (g .C) (countStore g (mem (g .C) img) c v) s) c v
+      r = then-count g K ok m0 img s (t .fine) c v l lv (rw (still-refs img s t c) h) (keep-blk g K ok (mem (g .C) img) (mem (g .C) s) (t .keep))
+
+  pub still-fill : (img s : List ℕ) → Still img s → (w o : ℕ) (vs : List ℕ) → w < g .N → o + length vs ≤ g .C → Small vs → refsOf g K (mem (g .C) img) w ≡ 0
+      → Still img (sets s (w * g .C + o) vs)
+      × ((x : ℕ) → x < g .N → cnt g (mem (g .C) (sets s (w * g .C + o) vs)) x ≡ cnt g (mem (g .C) s) x)
+      × Stored (g .C) (mem (g .C) s) (mem (g .C) (sets s (w * g .C + o) vs)) w o vs
+  unfolding SameGuest
+  still-fill img s t w o vs l h p f = (
+    record { fine = r .0; keep = keep-trans (mem (g .C) img) (mem (g .C) s) _ (t .keep) (r .1 .keep); reads = λ a b x p q w. r .1 .reads a b x p q w ∙ t .reads a b x p q w },
+    r .1 .cnts,
+    next-stored g K ok m0 s (t .fine) w o vs l h p,
+  )
+    where
+      r : Ok g K m0 (sets s (w * g .C + o) vs) × Quiet g K (mem (g .C) s) (mem (g .C) (sets s (w * g .C + o) vs))
+      r = next-free g K ok m0 s (t .fine) w o vs l h p (still-refs img s t w ∙ f)
+
+  module _ (img : List ℕ) (k : Ok g K m0 img) (i j o : ℕ) (bs : List ℕ) (l : i < g .L) (n : j < g .E) (inC : o + length bs ≤ g .C) (sm : Small bs) where
+    -- what a new entry for cluster c brings to light, where the guest saw zeros
+    commit : (s : List ℕ) → Still img s → (c : ℕ) → c < g .N → c ≢ 0 → tab g K (mem (g .C) img) i ≢ 0
+        → ((refsOf g K (mem (g .C) s) c ≡ 0) × (1 ≤ cnt g (mem (g .C) s) c)) ⊎ (c ≡ dat g K (mem (g .C) s) i j)
+        → ((x : ℕ) → x < g .C → mem (g .C) s c x ≡ getD (around (g .C) o bs) x 0) → ((x : ℕ) → x < g .C → gread g K (mem (g .C) img) i j x ≡ 0)
+        → EndW i j o bs img (apply (g .C) (entryStore g (tab g K (mem (g .C) img) i) j (K .mk c)) s)
+    unfolding SameGuest
+    commit s t c cN c0 tb new body zs = (
+      e .fine,
+      record {
+        other = λ a b x p q h d. e .reads a b x p q h d ∙ t .reads a b x p q h;
+        inside = λ y q. lit (o + y) (omega arith) ∙ around-in (g .C) o bs y q;
+        outside = λ x q d. lit x q ∙ around-out (g .C) o bs x d ∙ sym (zs x q);
+      },
+    )
+      where
+        m : ℕ → ℕ → ℕ
+        m = mem (g .C) img
+
+        ms : ℕ → ℕ → ℕ
+        ms = mem (g .C) s
+
+        tb′ : tab g K ms i ≡ tab g K m i
+        tb′ = keep-tab g K ok m ms (t .keep) i l
+
+        mc : K .clus (K .mk c) ≡ c
+        mc = ok .laws .mk-clus c cN
+
+        new′ : ((refsOf g K ms c ≡ 0) × (1 ≤ cnt g ms c)) ⊎ (c ≡ dat g K ms i j)
+            → (K .clus (K .mk c) ≢ 0 → (refsOf g K ms (K .clus (K .mk c)) ≡ 0) × (1 ≤ cnt g ms (K .clus (K .mk c)))) ⊎ (K .clus (K .mk c) ≡ dat g K ms i j)
+        new′ (inl f) = inl (λ d. rw mc f)
+        new′ (inr f) = inr (mc ∙ f)
+
+        e : Entered g K ok m0 s (apply (g .C) (entryStore g (tab g K m i) j (K .mk c)) s) i j (K .mk c)
+        e = rw tb′ at (next-entry g K ok m0 s (t .fine) i j (K .mk c) l n (λ z. tb (sym tb′ ∙ z)) (ok .laws .mk-good2 c cN c0) (ok .laws .mk-lt c cN) (new′ new))
+
+        lit : (x : ℕ) → x < g .C → gread g K (mem (g .C) (apply (g .C) (entryStore g (tab g K m i) j (K .mk c)) s)) i j x ≡ getD (around (g .C) o bs) x 0
+        lit x q = e .read x q ∙ rw (mc, ok .laws .mk-flag c cN) (shown-some c (ms c x) c0) ∙ body x q
+
+    -- the data cluster under a zero mark may hold anything
+    marked-fill : dat g K (mem (g .C) img) i j ≢ 0 → K .flag (l2 g (mem (g .C) img) (tab g K (mem (g .C) img) i) j) ≢ 0 → (vs : List ℕ) → 0 + length vs ≤ g .C → Small vs
+        → Still img (sets img (dat g K (mem (g .C) img) i j * g .C + 0) vs)
+        × Stored (g .C) (mem (g .C) img) (mem (g .C) (sets img (dat g K (mem (g .C) img) i j * g .C + 0) vs)) (dat g K (mem (g .C) img) i j) 0 vs
+    unfolding SameGuest
+    marked-fill d f vs h p = (
+      record {
+        fine = ok-next g K ok m0 img c 0 vs k d p st (r .0 .rts) (keep-sound g K ok m m′ s (r .0) (λ x q. omega (arith, s .inv .covered x q, r .1 x q)));
+        keep = r .0;
+        reads = λ a b x e q w. see a b x e q w (pair-or a b i j);
+      },
+      st,
+    )
+      where
+        m : ℕ → ℕ → ℕ
+        m = mem (g .C) img
+
+        s : Sound g K m
+        s = k .sound
+
+        c : ℕ
+        c = dat g K m i j
+
+        m′ : ℕ → ℕ → ℕ
+        m′ = mem (g .C) (sets img (c * g .C + 0) vs)
+
+        cN : c < g .N
+        cN = dat-in g K ok m s i j l n
+
+        st : Stored (g .C) m m′ c 0 vs
+        st = next-stored g K ok m0 img k c 0 vs cN h p
+
+        r : Keep g K m m′ × ((x : ℕ) → x < g .N → cnt g m′ x ≡ cnt g m x)
+            × ((a b x : ℕ) → a < g .L → b < g .E → x < g .C → (a ≢ i) ⊎ (b ≢ j) → gread g K m′ a b x ≡ gread g K m a b x)
+        r = data-step g K ok m s m′ (next-small g K ok m0 img k c 0 vs cN h p) i j l n d (st .cluster)
+
+        ff : K .flag (l2 g m′ (tab g K m′ i) j) ≢ 0
+        ff = rw (keep-tab g K ok m m′ (r .0) i l, r .0 .l2s i j l n (λ z. d (dat-none g K m i j z))) f
+
+        see : (a b x : ℕ) → a < g .L → b < g .E → x < g .C → ((a ≡ i) × (b ≡ j)) ⊎ ((a ≢ i) ⊎ (b ≢ j)) → gread g K m′ a b x ≡ gread g K m a b x
+        see a b x e q w (inr u) = r .2 a b x e q w u
+        see a b x e q w (inl u) = rw (u .0, u .1) (gread-marked g K m′ i j x ff ∙ sym (gread-marked g K m i j x f))
+
+    -- a place under a zero mark: the whole cluster, then the entry
+    pub marked-run : dat g K (mem (g .C) img) i j ≢ 0 → K .flag (l2 g (mem (g .C) img) (tab g K (mem (g .C) img) i) j) ≢ 0
+        → Run (g .C) (MidW i j o bs img)
+        (fill (dat g K (mem (g .C) img) i j) 0 (around (g .C) o bs) ++ (entryStore g (tab g K (mem (g .C) img) i) j (K .mk (dat g K (mem (g .C) img) i j)) ∷ []))
+        img (EndW i j o bs img)
+    unfolding starts
+    marked-run d f =
+        run-append (g .C) (MidW i j o bs img) _ _ img P (EndW i j o bs img) (entry-whole g _ _ _)
+        (run-fill (g .C) (MidW i j o bs img) c 0 A img P
+        (λ vs x. let r = filled vs (omega (arith, x .len, lA)) (small-mix _ img A vs (k .small) smA x) in (r .0 .fine, inl (r .0 .reads)))
+        (let r = filled A (omega (arith, lA)) smA in
+        (r .0, λ x q. from-start (mem (g .C) (sets img (c * g .C + 0) A) c) A x (r .1 .inside x (omega (arith, lA))))))
+        (λ s p. run-cons (g .C) (MidW i j o bs img) _ _ s (EndW i j o bs img) (entry-whole g _ _ _) (p .0 .fine, inl (p .0 .reads))
+        (let r : EndW i j o bs img (apply (g .C) (entryStore g (tab g K m i) j (K .mk c)) s) =
+        commit s (p .0) c cN d tb (inr (sym (keep-dat g K ok m (mem (g .C) s) (p .0 .keep) i j l n))) (p .1) (λ x q. gread-marked g K m i j x f) in
+        run-none (g .C) (MidW i j o bs img) _ (EndW i j o bs img) (r .0, inr (r .1)) r))
+      where
+        m : ℕ → ℕ → ℕ
+        m = mem (g .C) img
+
+        c : ℕ
+        c = dat g K m i j
+
+        tb : tab g K m i ≢ 0
+        tb z = d (dat-none g K m i j z)
+
+        A : List ℕ
+        A = around (g .C) o bs
+
+        lA : length A ≡ g .C
+        lA = length-around (g .C) o bs inC
+
+        smA : Small A
+        smA = small-around (g .C) o bs sm
+
+        cN : c < g .N
+        cN = dat-in g K ok m (k .sound) i j l n
+
+        P : List ℕ → Type 0
+        P s = Still img s × ((x : ℕ) → x < g .C → mem (g .C) s c x ≡ getD A x 0)
+
+        filled : (vs : List ℕ) → 0 + length vs ≤ g .C → Small vs
+            → Still img (sets img (c * g .C + 0) vs) × Stored (g .C) m (mem (g .C) (sets img (c * g .C + 0) vs)) c 0 vs
+        filled vs h p = marked-fill d f vs h p
+
+    -- no place: the count, the whole cluster, the entry
+    pub alloc-run : (c : ℕ) → c < g .N → cnt g (mem (g .C) img) c ≡ 0 → tab g K (mem (g .C) img) i ≢ 0 → dat g K (mem (g .C) img) i j ≡ 0
+        → Run (g .C) (MidW i j o bs img)
+        (countStore g (mem (g .C) img) c 1 ∷ (fill c 0 (around (g .C) o bs) ++ (entryStore g (tab g K (mem (g .C) img) i) j (K .mk c) ∷ [])))
+        img (EndW i j o bs img)
+    unfolding starts
+    alloc-run c cN z tb d =
+        run-cons (g .C) (MidW i j o bs img) _ _ img (EndW i j o bs img) (count-whole g _ _ _) (k, inl (st₀ .reads))
+        (run-append (g .C) (MidW i j o bs img) _ _ s₁ P (EndW i j o bs img) (entry-whole g _ _ _)
+        (run-fill (g .C) (MidW i j o bs img) c 0 A s₁ P
+        (λ vs x. let r = filled vs (omega (arith, x .len, lA)) (small-mix _ s₁ A vs (st₁ .0 .fine .small) smA x) in (r .0 .fine, inl (r .0 .reads)))
+        (let r = filled A (omega (arith, lA)) smA in
+        (r .0, r .1 c cN ∙ st₁ .1, λ x q. from-start (mem (g .C) (sets s₁ (c * g .C + 0) A) c) A x (r .2 .inside x (omega (arith, lA))))))
+        (λ s p. run-cons (g .C) (MidW i j o bs img) _ _ s (EndW i j o bs img) (entry-whole g _ _ _) (p .0 .fine, inl (p .0 .reads))
+        (let r : EndW i j o bs img (apply (g .C) (entryStore g (tab g K m i) j (K .mk c)) s) =
+        commit s (p .0) c cN c0 tb (inl (still-refs img s (p .0) c ∙ free, omega (arith, p .1))) (p .2) (λ x q. gread-none g K m i j x d) in
+        run-none (g .C) (MidW i j o bs img) _ (EndW i j o bs img) (r .0, inr (r .1)) r)))
+      where
+        m : ℕ → ℕ → ℕ
+        m = mem (g .C) img
+
+        A : List ℕ
+        A = around (g .C) o bs
+
+        lA : length A ≡ g .C
+        lA = length-around (g .C) o bs inC
+
+        smA : Small A
+        smA = small-around (g .C) o bs sm
+
+        free : refsOf g K m c ≡ 0
+        free = omega (arith, k .sound .inv .covered c cN)
+
+        c0 : c ≢ 0
+        c0 = free-not-0 g K ok m (k .sound) c free
+
+        st₀ : Still img img
+        st₀ = still-start img k
+
+        s₁ : List ℕ
+        s₁ = apply (g .C) (countStore g m c 1) img
+
+        st₁ : Still img s₁ × (cnt g (mem (g .C) s₁) c ≡ 1) × ((x : ℕ) → x < g .N → x ≢ c → cnt g (mem (g .C) s₁) x ≡ cnt g m x)
+            × ((a x : ℕ) → x < g .C → refsOf g K m a ≡ 0 → mem (g .C) s₁ a x ≡ m a x)
+        st₁ = still-count img img st₀ c 1 cN (one-fits g K ok m0) (omega (arith, free))
+
+        P : List ℕ → Type 0
+        P s = Still img s × (cnt g (mem (g .C) s) c ≡ 1) × ((x : ℕ) → x < g .C → mem (g .C) s c x ≡ getD A x 0)
+
+        filled : (vs : List ℕ) → 0 + length vs ≤ g .C → Small vs
+            → Still img (sets s₁ (c * g .C + 0) vs) × ((x : ℕ) → x < g .N → cnt g (mem (g .C) (sets s₁ (c * g .C + 0) vs)) x ≡ cnt g (mem (g .C) s₁) x)
+            × Stored (g .C) (mem (g .C) s₁) (mem (g .C) (sets s₁ (c * g .C + 0) vs)) c 0 vs
+        filled vs h p = still-fill img s₁ (st₁ .0) c 0 vs cN h p free
+
+    -- the L1 entry for a table t that is ready
+    pub record Ready (t c : ℕ) (s : List ℕ) : Type 0 where
+      pub still : Still img s
+      pub count-t : cnt g (mem (g .C) s) t ≡ 1
+      pub count-c : cnt g (mem (g .C) s) c ≡ 1
+      pub entry : l2 g (mem (g .C) s) t j ≡ K .mk c
+      pub none : (b : ℕ) → b < g .E → b ≢ j → l2 g (mem (g .C) s) t b ≡ 0
+      pub body : (x : ℕ) → x < g .C → mem (g .C) s c x ≡ getD (around (g .C) o bs) x 0
+
+    link-commit : (t c : ℕ) → t < g .N → c < g .N → t ≢ c → cnt g (mem (g .C) img) t ≡ 0 → cnt g (mem (g .C) img) c ≡ 0 → tab g K (mem (g .C) img) i ≡ 0
+        → (s : List ℕ) → Ready t c s → EndW i j o bs img (apply (g .C) (linkStore g i (K .mk t)) s)
+    unfolding SameGuest apply linkStore
+    link-commit t c tN cN tc zt zc z s r = (
+      ok-next g K ok m0 s w p (enc 8 (K .mk t)) (r .still .fine) w0 (small-enc 8 (K .mk t)) st (link-rt g K ok ms ss m′ sm′ i j t l n z′ tN ft st)
+          (link-sound g K ok ms ss m′ sm′ i j t l n z′ tN ft st c (ap (K .clus) (r .entry) ∙ mc) tc fc (omega (arith, r .count-t)) (omega (arith, r .count-c))
+          (λ b q. goods b q (ℕ-discrete b j)) (λ b q d. ap (K .clus) (r .none b q d) ∙ ok .laws .zero-clus)),
+      record {
+        other = λ a b x e q h d. see a b x e q h d (ℕ-discrete a i);
+        inside = λ y q. lit (o + y) (omega arith) ∙ around-in (g .C) o bs y q;
+        outside = λ x q d. lit x q ∙ around-out (g .C) o bs x d ∙ sym (gread-none g K m i j x (dat-none g K m i j z));
+      },
+    )
+      where
+        m : ℕ → ℕ → ℕ
+        m = mem (g .C) img
+
+        ms : ℕ → ℕ → ℕ
+        ms = mem (g .C) s
+
+        ss : Sound g K ms
+        ss = r .still .fine .sound
+
+        w : ℕ
+        w = g .l1c + i / g .E
+
+        p : ℕ
+        p = 8 * (i % g .E)
+
+        iE : i / g .E < g .l1n
+        iE = div-lt-iff-lt-mul (ok .epos) .1 (omega (arith, ok .l1fit))
+
+        wN : w < g .N
+        wN = omega (arith, iE, ok .l1in)
+
+        w0 : w ≢ 0
+        w0 = l1-0 g ms w (i / g .E) iE (fix-one g K ok ms ss w wN) refl
+
+        fits : p + length (enc 8 (K .mk t)) ≤ g .C
+        fits = omega (arith, ok .c8, length-enc 8 (K .mk t), mod-lt i (ok .epos))
+
+        m′ : ℕ → ℕ → ℕ
+        m′ = mem (g .C) (sets s (w * g .C + p) (enc 8 (K .mk t)))
+
+        sm′ : (a x : ℕ) → m′ a x < 256
+        sm′ = next-small g K ok m0 s (r .still .fine) w p (enc 8 (K .mk t)) wN fits (small-enc 8 (K .mk t))
+
+        st : Stored (g .C) ms m′ w p (enc 8 (K .mk t))
+        st = next-stored g K ok m0 s (r .still .fine) w p (enc 8 (K .mk t)) wN fits (small-enc 8 (K .mk t))
+
+        z′ : tab g K ms i ≡ 0
+        z′ = keep-tab g K ok m ms (r .still .keep) i l ∙ z
+
+        ft : refsOf g K ms t ≡ 0
+        ft = omega (arith, still-refs img s (r .still) t, k .sound .inv .covered t tN)
+
+        fc : refsOf g K ms c ≡ 0
+        fc = omega (arith, still-refs img s (r .still) c, k .sound .inv .covered c cN)
+
+        c0 : c ≢ 0
+        c0 = free-not-0 g K ok ms ss c fc
+
+        mc : K .clus (K .mk c) ≡ c
+        mc = ok .laws .mk-clus c cN
+
+        goods : (b : ℕ) → b < g .E → Dec (b ≡ j) → K .good2 (l2 g ms t b)
+        goods b q (yes e) = rw (e, r .entry) (ok .laws .mk-good2 c cN c0)
+        goods b q (no d) = rw (r .none b q d) (ok .laws .zero-good2)
+
+        see : (a b x : ℕ) → a < g .L → b < g .E → x < g .C → (a ≢ i) ⊎ (b ≢ j) → Dec (a ≡ i) → gread g K m′ a b x ≡ gread g K m a b x
+        see a b x e q h d (no u) = link-reads g K ok ms ss m′ sm′ i j t l n z′ tN ft st a b x e q h u ∙ r .still .reads a b x e q h
+        see a b x e q h (inl d) (yes u) = absurd (d u)
+        see a b x e q h (inr d) (yes u) =
+            rw u (link-zeros g K ok ms ss m′ sm′ i j t l n z′ tN ft st b x q (ap (K .clus) (r .none b q d) ∙ ok .laws .zero-clus) ∙ sym (gread-none g K m i b x (dat-none g K m i b z)))
+
+        cw : K .clus (l2 g ms t j) ≢ w
+        cw e = omega (arith, fix-l1 g ms w (i / g .E) iE refl, refs-fix (g .L) (g .E) (fix g ms) (tab g K ms) (dat g K ms) c, fc, ap (fix g ms) (sym mc ∙ ap (K .clus) (sym (r .entry)) ∙ e))
+
+        lit : (x : ℕ) → x < g .C → gread g K m′ i j x ≡ getD (around (g .C) o bs) x 0
+        lit x q = link-read g K ok ms ss m′ sm′ i j t l n z′ tN ft st x q cw ∙ rw (r .entry, mc, ok .laws .mk-flag c cN) (shown-some c (ms c x) c0) ∙ r .body x q
+
+    module _ (t c : ℕ) (tN : t < g .N) (cN : c < g .N) (tc : t ≢ c) (zt : cnt g (mem (g .C) img) t ≡ 0) (zc : cnt g (mem (g .C) img) c ≡ 0) where
+      free-t : refsOf g K (mem (g .C) img) t ≡ 0
+      free-t = omega (arith, k .sound .inv .covered t tN)
+
+      free-c : refsOf g K (mem (g .C) img) c ≡ 0
+      free-c = omega (arith, k .sound .inv .covered c cN)
+
+      -- the table's cluster is zeros and counted
+      record P₁ (s : List ℕ) : Type 0 where
+        still : Still img s
+        count-t : cnt g (mem (g .C) s) t ≡ 1
+        zeros : (x : ℕ) → x < g .C → mem (g .C) s t x ≡ 0
+
+      record P₂ (s : List ℕ) : Type 0 where
+        still : Still img s
+        count-t : cnt g (mem (g .C) s) t ≡ 1
+        count-c : cnt g (mem (g .C) s) c ≡ 1
+        zeros : (x : ℕ) → x < g .C → mem (g .C) s t x ≡ 0
+        body : (x : ℕ) → x < g .C → mem (g .C) s c x ≡ getD (around (g .C) o bs) x 0
+
+      step-entry : (s : List ℕ) → P₂ s → Ready t c (apply (g .C) (entryStore g t j (K .mk c)) s)
+      unfolding apply entryStore l2
+      step-entry s p =
+          record {
+            still = r .0;
+            count-t = r .1 t tN ∙ p .count-t;
+            count-c = r .1 c cN ∙ p .count-c;
+            entry = stored-num (g .C) ms m′ t (8 * j) 8 (K .mk c) (r .2) (ok .laws .mk-lt c cN);
+            none = λ b q d. stored-apart (g .C) ms m′ t (8 * j) (enc 8 (K .mk c)) (r .2) 8 t (8 * b) (omega (arith, ok .c8))
+                (steps-apart 8 b j (length (enc 8 (K .mk c))) (length-enc 8 (K .mk c)) d) ∙ num-zeros 8 (ms t) (8 * b) (λ x u v. p .zeros x (omega (arith, ok .c8)));
+            body = λ x q. r .2 .cluster c x q (λ e. tc (sym e)) ∙ p .body x q;
+          }
+        where
+          ms : ℕ → ℕ → ℕ
+          ms = mem (g .C) s
+
+          m′ : ℕ → ℕ → ℕ
+          m′ = mem (g .C) (sets s (t * g .C + 8 * j) (enc 8 (K .mk c)))
+
+          r : Still img (sets s (t * g .C + 8 * j) (enc 8 (K .mk c))) × ((x : ℕ) → x < g .N → cnt g m′ x ≡ cnt g ms x) × Stored (g .C) ms m′ t (8 * j) (enc 8 (K .mk c))
+          r = still-fill img s (p .still) t (8 * j) (enc 8 (K .mk c)) tN (omega (arith, ok .c8, length-enc 8 (K .mk c))) (small-enc 8 (K .mk c)) free-t
+
+      last : tab g K (mem (g .C) img) i ≡ 0 → (s : List ℕ) → P₂ s → Run (g .C) (MidW i j o bs img) (entryStore g t j (K .mk c) ∷ (linkStore g i (K .mk t) ∷ [])) s (EndW i j o bs img)
+      last z s p =
+          let e : Ready t c (apply (g .C) (entryStore g t j (K .mk c)) s) = step-entry s p in
+          let f : EndW i j o bs img (apply (g .C) (linkStore g i (K .mk t)) (apply (g .C) (entryStore g t j (K .mk c)) s)) = link-commit t c tN cN tc zt zc z _ e in
+          run-cons (g .C) (MidW i j o bs img) _ _ s (EndW i j o bs img) (entry-whole g _ _ _) (p .still .fine, inl (p .still .reads))
+          (run-cons (g .C) (MidW i j o bs img) _ _ _ (EndW i j o bs img) (link-whole g _ _) (e .still .fine, inl (e .still .reads))
+          (run-none (g .C) (MidW i j o bs img) _ (EndW i j o bs img) (f .0, inr (f .1)) f))
+
+      middle : (s : List ℕ) → P₁ s → Run (g .C) (MidW i j o bs img) (countStore g (mem (g .C) img) c 1 ∷ fill c 0 (around (g .C) o bs)) s P₂
+      middle s p =
+          run-cons (g .C) (MidW i j o bs img) _ _ s P₂ (count-whole g _ _ _) (p .still .fine, inl (p .still .reads))
+          (run-fill (g .C) (MidW i j o bs img) c 0 A s₁ P₂
+          (λ vs x. let r = filled vs (omega (arith, x .len, lA)) (small-mix _ s₁ A vs (st₁ .0 .fine .small) smA x) in (r .0 .fine, inl (r .0 .reads)))
+          (let r = filled A (omega (arith, lA)) smA in
+          record {
+            still = r .0;
+            count-t = r .1 t tN ∙ st₁ .2 t tN tc ∙ p .count-t;
+            count-c = r .1 c cN ∙ st₁ .1;
+            zeros = λ x q. r .2 .cluster t x q tc ∙ st₁ .3 t x q free-t ∙ p .zeros x q;
+            body = λ x q. from-start (mem (g .C) (sets s₁ (c * g .C + 0) A) c) A x (r .2 .inside x (omega (arith, lA)));
+          }))
+        where
+          m : ℕ → ℕ → ℕ
+          m = mem (g .C) img
+
+          A : List ℕ
+          A = around (g .C) o bs
+
+          lA : length A ≡ g .C
+          lA = length-around (g .C) o bs inC
+
+          smA : Small A
+          smA = small-around (g .C) o bs sm
+
+          s₁ : List ℕ
+          s₁ = apply (g .C) (countStore g m c 1) s
+
+          st₁ : Still img s₁ × (cnt g (mem (g .C) s₁) c ≡ 1) × ((x : ℕ) → x < g .N → x ≢ c → cnt g (mem (g .C) s₁) x ≡ cnt g (mem (g .C) s) x)
+              × ((a x : ℕ) → x < g .C → refsOf g K m a ≡ 0 → mem (g .C) s₁ a x ≡ mem (g .C) s a x)
+          st₁ = still-count img s (p .still) c 1 cN (one-fits g K ok m0) (omega (arith, free-c))
+
+          filled : (vs : List ℕ) → 0 + length vs ≤ g .C → Small vs
+              → Still img (sets s₁ (c * g .C + 0) vs) × ((x : ℕ) → x < g .N → cnt g (mem (g .C) (sets s₁ (c * g .C + 0) vs)) x ≡ cnt g (mem (g .C) s₁) x)
+              × Stored (g .C) (mem (g .C) s₁) (mem (g .C) (sets s₁ (c * g .C + 0) vs)) c 0 vs
+          filled vs h q = still-fill img s₁ (st₁ .0) c 0 vs cN h q free-c
+
+      first : Run (g .C) (MidW i j o bs img) (countStore g (mem (g .C) img) t 1 ∷ fill t 0 (replicate (g .C) 0)) img P₁
+      first =
+          run-cons (g .C) (MidW i j o bs img) _ _ img P₁ (count-whole g _ _ _) (k, inl (still-start img k .reads))
+          (run-fill (g .C) (MidW i j o bs img) t 0 A s₁ P₁
+          (λ vs x. let r = filled vs (omega (arith, x .len, lA)) (small-mix _ s₁ A vs (st₁ .0 .fine .small) (small-replicate (g .C)) x) in (r .0 .fine, inl (r .0 .reads)))
+          (let r = filled A (omega (arith, lA)) (small-replicate (g .C)) in
+          record {
+            still = r .0;
+            count-t = r .1 t tN ∙ st₁ .1;
+            zeros = λ x q. from-start (mem (g .C) (sets s₁ (t * g .C + 0) A) t) A x (r .2 .inside x (omega (arith, lA))) ∙ zeros-at (g .C) x;
+          }))
+        where
+          m : ℕ → ℕ → ℕ
+          m = mem (g .C) img
+
+          A : List ℕ
+          A = replicate (g .C) 0
+
+          lA : length A ≡ g .C
+          lA = length-replicate {A = ℕ} (g .C) 0
+
+          s₁ : List ℕ
+          s₁ = apply (g .C) (countStore g m t 1) img
+
+          st₁ : Still img s₁ × (cnt g (mem (g .C) s₁) t ≡ 1) × ((x : ℕ) → x < g .N → x ≢ t → cnt g (mem (g .C) s₁) x ≡ cnt g m x)
+              × ((a x : ℕ) → x < g .C → refsOf g K m a ≡ 0 → mem (g .C) s₁ a x ≡ m a x)
+          st₁ = still-count img img (still-start img k) t 1 tN (one-fits g K ok m0) (omega (arith, free-t))
+
+          filled : (vs : List ℕ) → 0 + length vs ≤ g .C → Small vs
+              → Still img (sets s₁ (t * g .C + 0) vs) × ((x : ℕ) → x < g .N → cnt g (mem (g .C) (sets s₁ (t * g .C + 0) vs)) x ≡ cnt g (mem (g .C) s₁) x)
+              × Stored (g .C) (mem (g .C) s₁) (mem (g .C) (sets s₁ (t * g .C + 0) vs)) t 0 vs
+          filled vs h q = still-fill img s₁ (st₁ .0) t 0 vs tN h q free-t
+
+      -- no table: its count, its zeros, the data's count, the data's cluster, the L2 entry, the L1 entry
+      pub table-run : tab g K (mem (g .C) img) i ≡ 0
+          → Run (g .C) (MidW i j o bs img)
+          ((countStore g (mem (g .C) img) t 1 ∷ fill t 0 (replicate (g .C) 0))
+          ++ ((countStore g (mem (g .C) img) c 1 ∷ fill c 0 (around (g .C) o bs)) ++ (entryStore g t j (K .mk c) ∷ (linkStore g i (K .mk t) ∷ []))))
+          img (EndW i j o bs img)
+      unfolding starts
+      table-run z =
+          run-append (g .C) (MidW i j o bs img) _ _ img P₁ (EndW i j o bs img) (count-whole g _ _ _) first
+          (λ s p. run-append (g .C) (MidW i j o bs img) _ _ s P₂ (EndW i j o bs img) (entry-whole g _ _ _) (middle s p) (last z))

@@ -1,0 +1,78 @@
+// The calls once the header is accepted: what the request must be, then the way, then the work.
+ghost use mathlib.Core.Path.{_≡_};
+ghost use Prim.Native.Nat.{_^_, _≤_};
+ghost use lib.ListN.{length};
+ghost use Rattle.choice.specs.Pick.{ceilDiv};
+ghost use Rattle.units.specs.Plan.{Done};
+ghost use Rattle.qcow2_spec.specs.Opened.{Opened};
+ghost use Rattle.qcow2_spec.specs.Store.{writePlan, discardPlan};
+ghost use Rattle.qcow2_spec.specs.References.{scratchLeft};
+ghost use Rattle.qcow2_spec.specs.Check.{check as checked, repairPlan};
+ghost use Rattle.qcow2_spec.specs.Header.{mostBits, mostSize};
+use qcow2_spec::Geometry;
+use qcow2_spec::Verdict;
+use units::Outcome;
+
+pub fn write(image: &mut [u8], g: Geometry, x: u64, src: &[u8], allowance: usize) -> Outcome
+    requires { ⌜ Opened g (now image) ⌝ }
+    ensures { λ r. ⌜ Done (writePlan (now (image .entry)) x (now (src .entry))) allowance (now (image .entry)) r (now (image .exit)) ⌝ }
+{
+    let len = src.len() as u64;
+    if g.size < x {
+        return Outcome::Refused(11);
+    }
+    if g.size - x < len {
+        return Outcome::Refused(11);
+    }
+    let o = power::rest(x, g.bits);
+    if power::power(g.bits) - o < len {
+        return Outcome::Refused(11);
+    }
+    if len == 0 {
+        return units::end_of(0, allowance);
+    }
+    let guest = power::quotient(x, g.bits);
+    let way = qcow2_guest::way_to(image, g, guest);
+    qcow2_store::writing::write_way(image, g, way, guest, src, o as usize, allowance)
+}
+
+// The guest clusters of a disk of size bytes, rounded up.
+fn disk_clusters(size: u64, bits: u32) -> u64
+    requires { ⌜ (bits ≤ mostBits) × (size ≤ mostSize) ⌝ }
+    ensures { λ r. ⌜ r ≡ ceilDiv size (2 ^ bits) ⌝ }
+{
+    power::quotient(size + (power::power(bits) - 1), bits)
+}
+
+pub fn discard(image: &mut [u8], g: Geometry, guest: u64, allowance: usize) -> Outcome
+    requires { ⌜ Opened g (now image) ⌝ }
+    ensures { λ r. ⌜ Done (discardPlan (now (image .entry)) guest) allowance (now (image .entry)) r (now (image .exit)) ⌝ }
+{
+    // the product of guest and the cluster size is not formed, since it could wrap
+    if disk_clusters(g.size, g.bits) <= guest {
+        return Outcome::Refused(11);
+    }
+    let way = qcow2_guest::way_to(image, g, guest);
+    qcow2_store::discarding::discard_way(image, g, way, guest, allowance)
+}
+
+pub fn check(image: &[u8], scratch: &mut [u8], g: Geometry) -> Verdict
+    requires { ⌜ Opened g (now image) ⌝ }
+    ensures { λ r. ⌜ (r ≡ checked (now (image .entry)) (length (now (scratch .entry)))) × (now (scratch .exit) ≡ scratchLeft (now (image .entry)) (now (scratch .entry))) ⌝ }
+{
+    if g.clusters > scratch.len() {
+        return Verdict::Refused(15);
+    }
+    qcow2_check::check(image, scratch, g)
+}
+
+pub fn repair(image: &mut [u8], scratch: &mut [u8], g: Geometry, allowance: usize) -> Outcome
+    requires { ⌜ Opened g (now image) ⌝ }
+    ensures { λ r. ⌜ Done (repairPlan (now (image .entry)) (length (now (scratch .entry)))) allowance (now (image .entry)) r (now (image .exit)) × (now (scratch .exit) ≡ scratchLeft (now (image .entry)) (now (scratch .entry))) ⌝ }
+{
+    if scratch.len() < g.clusters {
+        return Outcome::Refused(15);
+    }
+    let v = qcow2_check::check(image, scratch, g);
+    qcow2_repair::repairing::verdict_repair(image, g, v, scratch, allowance)
+}

@@ -1,0 +1,3 @@
+// Free clusters: the lowest, and how many there are.
+pub mod number;
+pub mod search;

@@ -1,0 +1,3 @@
+// The repair of a leaking image.
+mod groups;
+pub mod repairing;
