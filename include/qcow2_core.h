@@ -14,9 +14,9 @@
  *     judges the header afresh and accepts any bytes whatever.
  *   - out, data, scratch: bytes of the caller, with their length.
  *   - rows: numbers of 64 bits of the caller, with how many there are.
- *   - host, units, first, second, count: one number each, stored by every call
- *     that takes it, whatever it answers. What it is after each answer stands at
- *     the call; what it was before is not looked at.
+ *   - host, units, first, second, third, count: one number each, stored by every
+ *     call that takes it, whatever it answers. What it is after each answer
+ *     stands at the call; what it was before is not looked at.
  *
  *   A pointer must not be NULL, also where its length is 0, and has to be good
  *   for its length. What a call writes to, bytes, rows or a number, must not
@@ -30,6 +30,10 @@
  *   power refcount_order bits, 1 to 64, and 16 in version 2; a refcount block
  *   holds as many as C bytes do. Counts of 8 bits and more are big-endian; below
  *   that a byte holds several, the lowest cluster's in its lowest bits.
+ *   The guest disk is reached through the active L1 table. A snapshot has an L1
+ *   table of its own, and shares with it and with other snapshots the L2 tables
+ *   and the data that were not written since. Bit 63 of an active L1 or L2 entry
+ *   says that what it names has no other reference.
  *   A unit is the storing of one count, of one L1 or L2 entry, of the autoclear
  *   field, or of one byte of a fill. One that stores a count below 8 bits leaves
  *   the other counts of the byte as they stand then.
@@ -38,10 +42,10 @@
  *   0 is done: finished, sound, listed, or a host offset, as the call has it.
  *   1 to 999 is a refusal: the bytes of image, out and scratch and the rows are as
  *   they were, but for QCOW2_DAMAGED_IMAGE (17), which fills the scratch as the
- *   check does; and each of *host, *units, *first, *second and *count that the
- *   call takes is 0. 1001 and up are the other answers. The header's numbers are
- *   tried first, in the order 1 to 8, 18, 9, 10, then 15 or 11, then 12 and 13 on
- *   the way through the tables, then 14 or 16.
+ *   check does; and each of *host, *units, *first, *second, *third and *count
+ *   that the call takes is 0. 1001 and up are the other answers. The header's
+ *   numbers are tried first, in the order 1 to 8, 18, 9, 10, 21, then 15 or 11,
+ *   then 12, 13 and 22 on the way through the tables, then 14 or 16.
  */
 #ifndef QCOW2_CORE_H
 #define QCOW2_CORE_H
@@ -68,8 +72,9 @@ extern "C" {
 #define QCOW2_WRONG_CLUSTER_BITS 4u
 /* n is not a whole number of clusters, or is above 1,073,741,824. */
 #define QCOW2_WRONG_LENGTH 5u
-/* A backing file, encryption or snapshots; in version 3 also a refcount_order
- * above 6 (counts of more than 64 bits) or a header_length other than 104. */
+/* A backing file, encryption or more than 64 snapshots; in version 3 also a
+ * refcount_order above 6 (counts of more than 64 bits) or a header_length other
+ * than 104. */
 #define QCOW2_NOT_SUPPORTED 6u
 /* Version 3: a bit of incompatible_features is set. */
 #define QCOW2_INCOMPATIBLE 7u
@@ -84,19 +89,28 @@ extern "C" {
 /* A refcount table entry is wrong: one that has to name a refcount block names
  * none inside the image, or one after the last needed is not 0. */
 #define QCOW2_WRONG_BLOCK 10u
+/* There are snapshots, and their table does not start at a cluster or an entry
+ * of it runs past the image; or a snapshot's L1 table has more than 65,536
+ * entries, does not start at a cluster or runs past the image. */
+#define QCOW2_WRONG_SNAPSHOT_TABLE 21u
 
 /* ---- Refusals: the request and what is met on its way -------------------- */
 
 /* The guest range runs past the disk's end; a write does not lie inside one
- * guest cluster; a discarded guest cluster begins at or past the disk's end. */
+ * guest cluster; a discarded guest cluster begins at or past the disk's end; a
+ * snapshot is not there, or the range runs past what its L1 table reaches. */
 #define QCOW2_WRONG_RANGE 11u
 /* An L1 or L2 entry on the way breaks the rules for entries. */
 #define QCOW2_BAD_ENTRY 12u
 /* The L2 entry is that of a compressed cluster. */
 #define QCOW2_COMPRESSED 13u
+/* The way of a write or discard leads through an L1 or L2 entry that has a place
+ * and bit 63 clear: a snapshot may need what is there. Tried for the L1 entry
+ * after 12, for the L2 entry after 13 and 12. */
+#define QCOW2_HELD_BY_SNAPSHOT 22u
 /* A write needs new clusters, one or two, and fewer have the stored count 0. */
 #define QCOW2_NO_ROOM 14u
-/* The scratch of a check or repair is shorter than N bytes. */
+/* The scratch of a check or repair is shorter than 2N bytes. */
 #define QCOW2_SHORT_SCRATCH 15u
 /* The host cluster of a discard has the stored count 0 already. */
 #define QCOW2_COUNT_IS_ZERO 16u
@@ -113,30 +127,48 @@ extern "C" {
 #define QCOW2_ABSENT 1003u
 /* Leaking: counts above their references, nothing worse (check). */
 #define QCOW2_LEAKS 1004u
-/* Damaged, an L1 entry breaks the rules (check). */
+/* Damaged, an entry of the active L1 table breaks the rules (check). */
 #define QCOW2_BAD_L1 1005u
-/* Damaged, an L2 entry breaks the rules (check). */
+/* Damaged, an L2 entry below the active L1 table breaks the rules (check). */
 #define QCOW2_BAD_L2 1006u
-/* Damaged, a cluster has two references or more (check). */
+/* Damaged, a cluster is used for two things, or twice for one (check). */
 #define QCOW2_SHARED 1007u
 /* Damaged, a count is below its references (check). */
 #define QCOW2_SHORT 1008u
+/* Damaged, an entry of a snapshot's L1 table breaks the rules (check). */
+#define QCOW2_SNAPSHOT_BAD_L1 1009u
+/* Damaged, an L2 entry below a snapshot's L1 table breaks the rules (check). */
+#define QCOW2_SNAPSHOT_BAD_L2 1010u
+/* Damaged, bit 63 of an entry of the active L1 table is wrong (check). */
+#define QCOW2_MARK_L1 1011u
+/* Damaged, bit 63 of an L2 entry below the active L1 table is wrong (check). */
+#define QCOW2_MARK_L2 1012u
 
 /* ---- Reading ------------------------------------------------------------- */
 
 /*
  * Where one guest offset lies. QCOW2_DONE gives its place in the image in *host;
- * QCOW2_ZEROS and QCOW2_ABSENT say that there is none; else 1 to 13 or 18. *host
- * is 0 for every other answer than QCOW2_DONE. An offset at or past size is 11.
+ * QCOW2_ZEROS and QCOW2_ABSENT say that there is none; else 1 to 13, 18 or 21.
+ * *host is 0 for every other answer than QCOW2_DONE. An offset at or past size
+ * is 11.
  */
 uint32_t qcow2_translate(const uint8_t *image, size_t n, uint64_t offset, uint64_t *host);
 
 /*
  * Reads out_len guest bytes from offset on. QCOW2_DONE: out is filled whole.
- * Else 1 to 13 or 18, and out is as it was. Length 0 at or before the disk's
- * end is done.
+ * Else 1 to 13, 18 or 21, and out is as it was. Length 0 at or before the
+ * disk's end is done.
  */
 uint32_t qcow2_read(const uint8_t *image, size_t n, uint64_t offset, uint8_t *out, size_t out_len);
+
+/*
+ * The same of the disk that a snapshot has kept. Snapshots are numbered from 0,
+ * in the snapshot table's order. The disk ends where the snapshot's L1 table
+ * ends: its entries times C / 8 times C, whatever the size was. A snapshot that
+ * is not there is 11, whatever is asked of it.
+ */
+uint32_t qcow2_read_snapshot(const uint8_t *image, size_t n, uint64_t snapshot, uint64_t offset,
+                             uint8_t *out, size_t out_len);
 
 /*
  * How many guest bytes from offset on lie in one piece in the image: to the end
@@ -159,9 +191,9 @@ size_t qcow2_lookup(const uint8_t *image, size_t n, uint64_t offset);
  *
  * QCOW2_DONE: *count runs are listed, m / 3 at most (m numbers are lent), one
  * after the other; the rest of rows is as it was. Where their lengths fall short
- * of len, call again from there on. Else 1 to 11 or 18, *count is 0, and rows
- * are as they were. Length 0 at or before the disk's end is done with no run, and
- * so is m below 3: *count is 0.
+ * of len, call again from there on. Else 1 to 11, 18 or 21, *count is 0, and
+ * rows are as they were. Length 0 at or before the disk's end is done with no
+ * run, and so is m below 3: *count is 0.
  */
 uint32_t qcow2_runs(const uint8_t *image, size_t n, uint64_t offset, uint64_t len, uint64_t *rows,
                     size_t m, uint64_t *count);
@@ -188,8 +220,8 @@ uint32_t qcow2_runs(const uint8_t *image, size_t n, uint64_t offset, uint64_t le
  */
 
 /*
- * Writes len bytes at offset, inside one guest cluster. Else 1 to 14 or 18.
- * The lists: data in place, len units; a zero mark with a place, the cluster
+ * Writes len bytes at offset, inside one guest cluster. Else 1 to 14, 18, 21 or
+ * 22. The lists: data in place, len units; a zero mark with a place, the cluster
  * and the entry, C + 1; a new cluster, its count, the cluster and the entry,
  * C + 2; a new L2 table too, 2C + 4.
  */
@@ -198,8 +230,8 @@ uint32_t qcow2_write(uint8_t *image, size_t n, uint64_t offset, const uint8_t *d
 
 /*
  * Discards the guest cluster of this number (guest offset / C). Else 1 to 13,
- * 16 or 18. The list: the L2 entry set to 0, then the count less one; shorter
- * where less is there.
+ * 16, 18, 21 or 22. The list: the L2 entry set to 0, then the count less one;
+ * shorter where less is there.
  */
 uint32_t qcow2_discard(uint8_t *image, size_t n, uint64_t cluster, uint64_t allowance,
                        uint64_t *units);
@@ -207,10 +239,10 @@ uint32_t qcow2_discard(uint8_t *image, size_t n, uint64_t cluster, uint64_t allo
 /*
  * Sets each count of a leaking image that is above its references to them,
  * rising by cluster, one unit each. A sound image has an empty list. Else 1 to
- * 10, 15, 17 or 18. Unless refused with 1 to 15 or 18, scratch[0..N] ends as
- * the check would leave it for the image as it was on entry, whatever the
- * allowance. Where the autoclear field is not zero, what looks leaked may belong
- * to a feature of its bits, such as qemu's persistent bitmaps.
+ * 10, 15, 17, 18 or 21. Unless refused with 1 to 15, 18 or 21, scratch[0..2N]
+ * ends as the check would leave it for the image as it was on entry, whatever
+ * the allowance. Where the autoclear field is not zero, what looks leaked may
+ * belong to a feature of its bits, such as qemu's persistent bitmaps.
  */
 uint32_t qcow2_repair(uint8_t *image, size_t n, uint8_t *scratch, size_t m, uint64_t allowance,
                       uint64_t *units);
@@ -218,29 +250,42 @@ uint32_t qcow2_repair(uint8_t *image, size_t n, uint8_t *scratch, size_t m, uint
 /* ---- Checking ------------------------------------------------------------ */
 
 /*
- * Counts the references and judges the stored counts by them. scratch has m
- * bytes, at least N. Unless refused (1 to 10, 15, 18), scratch[0..N] ends as
- * the references of each cluster, with 2 for two or more; the rest is as it was.
+ * Counts the references, on every path from every L1 table, and judges the
+ * stored counts by them. scratch has m bytes, at least 2N. Unless refused (1 to
+ * 10, 15, 18, 21), scratch[0..2N] ends as the references of each cluster, two
+ * big-endian bytes each, with 65,535 for more; the rest is as it was.
  *
  *   QCOW2_DONE    sound; *first: 0
  *   QCOW2_LEAKS   *first: number of clusters whose count is too high
  *   QCOW2_BAD_L1  *first: L1 index of the first bad entry
  *   QCOW2_BAD_L2  *first, *second: L1 and L2 index of the first bad entry
- *   QCOW2_SHARED  *first: the lowest cluster with two references or more
+ *   QCOW2_SNAPSHOT_BAD_L1, QCOW2_SNAPSHOT_BAD_L2
+ *                 the same; *third: the snapshot's number
+ *   QCOW2_SHARED  *first: the lowest shared cluster
  *   QCOW2_SHORT   *first: the lowest cluster whose count is too low
+ *   QCOW2_MARK_L1 *first: L1 index of the first entry whose bit 63 is wrong
+ *   QCOW2_MARK_L2 *first, *second: its L1 and L2 index
  *   a refusal     *first: 0
  *
- * *second is 0 for every other answer than QCOW2_BAD_L2.
+ * *second is 0 for every other answer than the three with an L2 index, *third for
+ * every other than the two of a snapshot. Of several faults the first is named: a
+ * bad entry, of the active L1 table and what is below it and then of each
+ * snapshot's; a shared cluster; a short one; a wrong bit 63.
+ *
+ * A cluster is shared if it has two roles out of header, refcount table, refcount
+ * block, L1 table, snapshot table, L2 table and data, if it has one of the first
+ * five twice, or if it is reached twice from one L1 table. Bit 63 of an active
+ * entry with a place is right if it is set exactly where that place has one
+ * reference.
  */
 uint32_t qcow2_check(const uint8_t *image, size_t n, uint8_t *scratch, size_t m, uint64_t *first,
-                     uint64_t *second);
+                     uint64_t *second, uint64_t *third);
 
 /*
- * A cluster's stored count less the scratch's figure, and 65,535 where it is
- * more. The check's figures are 0 to 2, so it is -2 or more with them. Below zero
- * the cluster is short, above zero it leaks.
+ * A cluster's stored count less the scratch's figure, from -65,535 up, and
+ * 65,535 where it is more. Below zero the cluster is short, above zero it leaks.
  */
-int32_t qcow2_difference(uint64_t stored, uint8_t figure);
+int32_t qcow2_difference(uint64_t stored, uint16_t figure);
 
 #ifdef __cplusplus
 }

@@ -71,6 +71,8 @@ create a 1M; heed "create, nothing written" a '5 6'
 create a 64k -o compat=0.10,cluster_size=512; heed "-o compat=0.10,cluster_size=512" a 5
 create b 1M; fill b; create a 1M -b b -F qcow2; heed "a backing file" a '5 6'
 create a 1M; fill a; qemu-img snapshot -c s a; fill a; heed "a snapshot" a 6
+create a 1M -o compat=0.10,cluster_size=4096; fill a
+snapshots a 65; pad a; heed "65 snapshots" a 6
 create a 1M; fill a; qemu-img bitmap --add a b; heed "a persistent bitmap" a '5 6'
 create a 1M -o cluster_size=2M; fill a; heed "-o cluster_size=2M" a 6
 for bits in 1 2 4 8 32 64; do
@@ -168,6 +170,17 @@ patch a 29 '\001\226A'; heed "  with counts of 8 bits" a 18
 create a 1M; fill a; qemu-img convert -O raw a a.raw; truncate -s 104448 a.raw
 patch a 29 '\001\226A'; patch a 112 unkn; listed "  with an unknown header extension" a '6 18'
 
+# What a snapshot holds: the new image has the disk alone, and takes the write.
+create a 1M -o compat=0.10; fill a; qemu-img snapshot -c s a; pad a; rm -f a.raw
+head -c 1000 /dev/urandom > data
+text=$("$QSTORE" write a 5000 < data 2>&1 || true)
+expect "a write to what a snapshot holds" "$(grep -o 'refused ([0-9]*)' <<< "$text")" 'refused (22)'
+heed_once a "$text"
+"$QSTORE" write a 5000 < data > /dev/null && text=written || text=refused
+expect "  then" "$text, $(ours a), $(theirs a)" 'written, sound, sound'
+"$QSTORE" read a 5000 1000 | cmp -s - data && text=yes || text=no
+expect "  the bytes are there" "$text" yes
+
 # Where the advice is to leave the file, since qemu refuses it too.
 refuses() { # WHAT OFFSET BYTES NUMBER
     create a 1G; older a; patch a "$2" "$3"
@@ -187,6 +200,30 @@ refuses "an L1 table of one entry" 39 '\001' 8
 refuses "an L1 table inside a cluster" 47 '\001' 9
 refuses "a refcount table inside a cluster" 55 '\001' 9
 refuses "no refcount table" 59 '\000' 9
+
+# The same by the snapshots.
+refuses_kept() { # WHAT OFFSET BYTES NUMBER QEMU: the offset in the header, or from the snapshot table on
+    create a 1M; fill a; qemu-img snapshot -c s a; older a
+    case $2 in
+        +*) patch a $(($(field a 68) + $2)) "$3" ;;
+        *) patch a "$2" "$3" ;;
+    esac
+    qemu-img convert -f qcow2 -O raw a b 2> /dev/null && text=read || text=refused
+    expect "$1: qstore, qemu" "$(ours a), $text" "refused $4, $5"
+    if [ "$5" = refused ]; then
+        expect "  commands advised" "$(commands "$("$QSTORE" check a 2>&1 || true)")" ''
+    else
+        heed "  what is advised" a "$4"
+    fi
+}
+refuses_kept "a snapshot table inside a cluster" 71 '\001' 21 refused
+refuses_kept "65,537 snapshots" 60 '\000\001\000\001' 6 refused
+refuses_kept "extra data of 16,777,240 bytes" +36 '\001' 21 refused
+refuses_kept "a snapshot table past the file's end" 67 '\001' 21 read
+refuses_kept "a snapshot's name past the file's end" +14 '\377\377' 21 read
+refuses_kept "a snapshot's L1 table inside a cluster" +7 '\001' 21 read
+refuses_kept "  past the file's end" +4 '\001' 21 read
+refuses_kept "  with 65,537 entries" +8 '\000\001\000\001' 21 read
 
 sort -u met > met.sorted
 sed -n 's#\tinterop/advice.sh$##p' "$here/advised.tsv" | sort > wanted

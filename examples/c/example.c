@@ -1,7 +1,7 @@
 /*
  * The core from C: makes an image in memory, writes, cuts a write as a power
- * cut would, checks, repairs, reads back. Prints each step and returns 0 only
- * if every answer is the expected one.
+ * cut would, checks, repairs, reads back, and takes a snapshot. Prints each step
+ * and returns 0 only if every answer is the expected one.
  *
  *   gcc -Wall -Wextra -std=c11 -I../../include example.c ../../target/staticlib/libqcow2_c.a -o example
  * or: make run
@@ -15,7 +15,7 @@
 enum { CLUSTER = 512, CLUSTERS = 16, LENGTH = CLUSTER * CLUSTERS };
 
 static uint8_t image[LENGTH];
-static uint8_t scratch[CLUSTERS];
+static uint8_t scratch[2 * CLUSTERS];
 static int failed;
 
 static void expect(const char *step, uint64_t got, uint64_t wanted)
@@ -71,8 +71,13 @@ static uint64_t free_clusters(void)
 
 static uint32_t check(uint64_t *first)
 {
-    uint64_t second;
-    return qcow2_check(image, LENGTH, scratch, CLUSTERS, first, &second);
+    uint64_t second, third;
+    return qcow2_check(image, LENGTH, scratch, sizeof scratch, first, &second, &third);
+}
+
+static uint32_t repair(uint64_t *units)
+{
+    return qcow2_repair(image, LENGTH, scratch, sizeof scratch, UINT64_MAX, units);
 }
 
 static uint32_t write_text(uint64_t offset, const char *text, uint64_t allowance, uint64_t *units)
@@ -88,8 +93,7 @@ static void cut_and_repair(void)
     expect("  units", units, 1027);
     expect("check after the cut: leaks", check(&first), QCOW2_LEAKS);
     expect("  clusters leaked", first, 2);
-    expect("repair: done", qcow2_repair(image, LENGTH, scratch, CLUSTERS, UINT64_MAX, &units),
-           QCOW2_DONE);
+    expect("repair: done", repair(&units), QCOW2_DONE);
     expect("  units", units, 2);
     expect("check after the repair: sound", check(&first), QCOW2_DONE);
     expect("  free clusters", free_clusters(), 12);
@@ -131,7 +135,8 @@ static void autoclear(void)
 /* A refusal leaves the lent bytes and rows alone and sets each number to 0. */
 static void refusals(void)
 {
-    uint64_t host = 7, count = 7, units = 7, first = 7, second = 7, rows[3] = {7, 7, 7};
+    uint64_t host = 7, count = 7, units = 7, rows[3] = {7, 7, 7};
+    uint64_t first = 7, second = 7, third = 7;
     uint8_t out = 0xC3, before[LENGTH];
     memcpy(before, image, LENGTH);
     expect("translate the disk's end: refused", qcow2_translate(image, LENGTH, 65536, &host),
@@ -148,8 +153,9 @@ static void refusals(void)
            QCOW2_WRONG_RANGE);
     expect("  units", units, 0);
     expect("check with a short scratch: refused",
-           qcow2_check(image, LENGTH, scratch, CLUSTERS - 1, &first, &second), QCOW2_SHORT_SCRATCH);
-    expect("  first and second", first | second, 0);
+           qcow2_check(image, LENGTH, scratch, sizeof scratch - 1, &first, &second, &third),
+           QCOW2_SHORT_SCRATCH);
+    expect("  first, second and third", first | second | third, 0);
     expect("  the image is as it was", memcmp(before, image, LENGTH) == 0, 1);
     store(100, 112, 4);
     expect("header_length 112: refused", check(&first), QCOW2_NOT_SUPPORTED);
@@ -168,6 +174,7 @@ static void discard(void)
     expect("check: sound", check(&first), QCOW2_DONE);
     expect("  free clusters", free_clusters(), 11);
     expect("a count of 0 with two references is short by", (uint64_t)-qcow2_difference(0, 2), 2);
+    expect("the most that one can be short by", (uint64_t)-qcow2_difference(0, 65535), 65535);
     expect("a difference is cut off at", (uint64_t)qcow2_difference(UINT64_MAX, 0), 65535);
 }
 
@@ -183,11 +190,65 @@ static void narrow_counts(void)
     expect("  the byte of the first eight counts", image[2 * CLUSTER], 0x1F);
     expect("whole write: done", write_text(33285, "hello", UINT64_MAX, &units), QCOW2_DONE);
     expect("  the byte of the first eight counts", image[2 * CLUSTER], 0x7F);
-    expect("repair: done", qcow2_repair(image, LENGTH, scratch, CLUSTERS, UINT64_MAX, &units),
-           QCOW2_DONE);
+    expect("repair: done", repair(&units), QCOW2_DONE);
     expect("  the byte of the first eight counts", image[2 * CLUSTER], 0x6F);
     store(96, 7, 4);
     expect("counts of 128 bits: refused", check(&first), QCOW2_NOT_SUPPORTED);
+}
+
+/* A snapshot of the image as it is, with one L2 table and its data in clusters 4
+ * and 5: its table in cluster 6, its L1 table in 7. Both disks share 4 and 5, so
+ * their counts are 2 and bit 63 of the active entries is clear. */
+static void make_snapshot(void)
+{
+    memcpy(image + 7 * CLUSTER, image + 3 * CLUSTER, 16);
+    store(6 * CLUSTER, 7 * CLUSTER, 8);     /* l1_table_offset */
+    store(6 * CLUSTER + 8, 2, 4);           /* l1_size */
+    store(60, 1, 4);                        /* nb_snapshots */
+    store(64, 6 * CLUSTER, 8);              /* snapshots_offset */
+    image[3 * CLUSTER + 8] &= 0x7F;
+    image[4 * CLUSTER + 8] &= 0x7F;
+    store(2 * CLUSTER + 2 * 4, 2, 2);
+    store(2 * CLUSTER + 2 * 5, 2, 2);
+    store(2 * CLUSTER + 2 * 6, 1, 2);
+    store(2 * CLUSTER + 2 * 7, 1, 2);
+}
+
+/* What a snapshot may need is not written to; the rest of the disk is. */
+static void snapshots(void)
+{
+    uint64_t units = 0, first = 0, second = 0, third = 7;
+    uint8_t out[5];
+    make_image();
+    expect("whole write: done", write_text(33285, "hello", UINT64_MAX, &units), QCOW2_DONE);
+    make_snapshot();
+    expect("one snapshot, check: sound", check(&first), QCOW2_DONE);
+    expect("  references of the data cluster", (uint64_t)scratch[10] << 8 | scratch[11], 2);
+    expect("write to shared data: refused", write_text(33285, "other", UINT64_MAX, &units),
+           QCOW2_HELD_BY_SNAPSHOT);
+    expect("discard of them: refused", qcow2_discard(image, LENGTH, 65, UINT64_MAX, &units),
+           QCOW2_HELD_BY_SNAPSHOT);
+    expect("write elsewhere: done", write_text(5, "other", UINT64_MAX, &units), QCOW2_DONE);
+    expect("  units", units, 1028);
+    expect("read of the snapshot: done", qcow2_read_snapshot(image, LENGTH, 0, 33285, out, 5),
+           QCOW2_DONE);
+    expect("  the data", memcmp(out, "hello", 5) == 0, 1);
+    expect("  elsewhere: done", qcow2_read_snapshot(image, LENGTH, 0, 5, out, 5), QCOW2_DONE);
+    expect("  zeros", memcmp(out, "\0\0\0\0\0", 5) == 0, 1);
+    expect("a snapshot that is not there: refused",
+           qcow2_read_snapshot(image, LENGTH, 1, 0, out, 5), QCOW2_WRONG_RANGE);
+    store(3 * CLUSTER + 8, UINT64_C(1) << 63 | 4 * CLUSTER, 8);
+    expect("bit 63 set for a shared table: damaged", check(&first), QCOW2_MARK_L1);
+    expect("  L1 index", first, 1);
+    store(7 * CLUSTER, 1, 8);
+    expect("a bad entry of the snapshot: damaged",
+           qcow2_check(image, LENGTH, scratch, sizeof scratch, &first, &second, &third),
+           QCOW2_SNAPSHOT_BAD_L1);
+    expect("  the snapshot's number", third, 0);
+    store(64, 6 * CLUSTER + 8, 8);
+    expect("a snapshot table inside a cluster: refused", check(&first), QCOW2_WRONG_SNAPSHOT_TABLE);
+    store(60, 65, 4);
+    expect("65 snapshots: refused", check(&first), QCOW2_NOT_SUPPORTED);
 }
 
 int main(void)
@@ -202,6 +263,7 @@ int main(void)
     refusals();
     discard();
     narrow_counts();
+    snapshots();
     puts(failed ? "example: WRONG" : "example: all as expected");
     return failed;
 }

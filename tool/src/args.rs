@@ -19,11 +19,26 @@ pub struct Options {
 pub enum Command {
     Info,
     Check,
-    Repair { allowance: u64, force: bool },
+    Repair {
+        allowance: u64,
+        force: bool,
+    },
     Map,
-    Read { offset: u64, length: u64 },
-    Write { offset: u64, allowance: u64 },
-    Discard { offset: u64, length: u64, allowance: u64 },
+    /// Of the disk, or of the snapshot that the word names.
+    Read {
+        offset: u64,
+        length: u64,
+        snapshot: Option<OsString>,
+    },
+    Write {
+        offset: u64,
+        allowance: u64,
+    },
+    Discard {
+        offset: u64,
+        length: u64,
+        allowance: u64,
+    },
 }
 
 impl Command {
@@ -43,6 +58,7 @@ pub enum Parsed {
 
 /// The options of the commands that change nothing.
 const LOOKS: &[&str] = &["--share", "--as-if-mended"];
+const READS: &[&str] = &["--snapshot", "--share", "--as-if-mended"];
 
 /// A command's name, its operands beside the image, its options beside those
 /// of all, and its help.
@@ -51,7 +67,7 @@ pub const COMMANDS: [(&str, &[&str], &[&str], &str); 7] = [
     ("check", &[], LOOKS, help::CHECK),
     ("repair", &[], &["--allowance", "--force"], help::REPAIR),
     ("map", &[], LOOKS, help::MAP),
-    ("read", &["OFFSET", "LENGTH"], LOOKS, help::READ),
+    ("read", &["OFFSET", "LENGTH"], READS, help::READ),
     ("write", &["OFFSET"], &["--allowance"], help::WRITE),
     ("discard", &["OFFSET", "LENGTH"], &["--allowance"], help::DISCARD),
 ];
@@ -85,8 +101,8 @@ pub fn parse(args: impl IntoIterator<Item = OsString>) -> Result<Parsed, String>
     if let Some(extra) = given.next() {
         return Err(format!("{name}: '{}' is one operand too many", extra.to_string_lossy()));
     }
-    let command = command(name, &numbers, &line);
-    let Line { json, share, as_if_mended, .. } = line;
+    let (json, share, as_if_mended) = (line.json, line.share, line.as_if_mended);
+    let command = command(name, &numbers, line);
     Ok(Parsed::Run(Options { json, image, share, as_if_mended, command }))
 }
 
@@ -95,13 +111,13 @@ pub fn asks_json(line: &[OsString]) -> bool {
     line.iter().take_while(|arg| *arg != "--").any(|arg| arg == "--json")
 }
 
-fn command(name: &str, numbers: &[u64], line: &Line) -> Command {
-    let &Line { allowance, force, .. } = line;
+fn command(name: &str, numbers: &[u64], line: Line) -> Command {
+    let Line { allowance, force, snapshot, .. } = line;
     match (name, numbers) {
         ("info", _) => Command::Info,
         ("check", _) => Command::Check,
         ("repair", _) => Command::Repair { allowance, force },
-        ("read", &[offset, length]) => Command::Read { offset, length },
+        ("read", &[offset, length]) => Command::Read { offset, length, snapshot },
         ("write", &[offset]) => Command::Write { offset, allowance },
         ("discard", &[offset, length]) => Command::Discard { offset, length, allowance },
         _ => Command::Map,
@@ -112,6 +128,7 @@ struct Line {
     operands: Vec<OsString>,
     json: bool,
     allowance: u64,
+    snapshot: Option<OsString>,
     force: bool,
     share: bool,
     as_if_mended: bool,
@@ -126,6 +143,7 @@ fn line(
         operands: Vec::new(),
         json: false,
         allowance: u64::MAX,
+        snapshot: None,
         force: false,
         share: false,
         as_if_mended: false,
@@ -147,6 +165,10 @@ fn line(
                 let value = args.next().ok_or("--allowance: the number of units is missing")?;
                 let value = number::parse(&value.to_string_lossy());
                 line.allowance = value.map_err(|fault| format!("--allowance: {fault}"))?;
+            }
+            Some("--snapshot") if options.contains(&"--snapshot") => {
+                let word = args.next().ok_or("--snapshot: the id, name or #number is missing")?;
+                line.snapshot = Some(word);
             }
             Some(option) if option.len() > 1 && option.starts_with('-') => {
                 return Err(format!("there is no option '{option}' here"));
@@ -172,7 +194,10 @@ mod tests {
     fn commands() {
         let options = run("read a.qcow2 0x10 4k --json").unwrap();
         assert!(options.json && options.image.as_os_str() == "a.qcow2");
-        assert_eq!(options.command, Command::Read { offset: 16, length: 4096 });
+        let read = |snapshot| Command::Read { offset: 16, length: 4096, snapshot };
+        assert_eq!(options.command, read(None));
+        let options = run("read a.qcow2 --snapshot -1 0x10 4k").unwrap();
+        assert_eq!(options.command, read(Some("-1".into())));
         let options = run("write --allowance 514 -- --odd-name 33285").unwrap();
         assert_eq!(options.image.as_os_str(), "--odd-name");
         assert_eq!(options.command, Command::Write { offset: 33_285, allowance: 514 });
@@ -203,6 +228,10 @@ mod tests {
         for line in ["write a 0 --share", "repair a --share", "discard a 0 512 --share"] {
             assert_eq!(fault(line), "there is no option '--share' here");
         }
+        for line in ["check a --snapshot 1", "map a --snapshot 1", "write a 0 --snapshot 1"] {
+            assert_eq!(fault(line), "there is no option '--snapshot' here");
+        }
+        assert!(fault("read a 0 1 --snapshot").contains("missing"));
         assert!(fault("write a x").starts_with("write: OFFSET: 'x' is no number"));
         assert!(fault("write a 0 --allowance").contains("missing"));
     }
@@ -223,7 +252,7 @@ mod tests {
             let asked = parse([name, "--help"].map(OsString::from));
             assert!(matches!(asked, Ok(Parsed::Help(found)) if found == text));
             assert!(text.starts_with(&format!("qstore {name} IMAGE")));
-            for option in ["--allowance", "--force", "--share", "--as-if-mended"] {
+            for option in ["--allowance", "--force", "--share", "--as-if-mended", "--snapshot"] {
                 assert_eq!(text.contains(option), options.contains(&option));
             }
             assert!(help::MAIN.contains(&format!("qstore {name} ")));

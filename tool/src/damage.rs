@@ -2,17 +2,21 @@
 
 use qcow2_core::Verdict;
 
-use crate::fields::be64;
-use crate::findings::{l1_fault, l2_fault, Fault, NO_DAMAGE};
+use crate::findings::{of_snapshot, Fault, NO_DAMAGE};
 use crate::json::Json;
 use crate::layout::Layout;
+use crate::marks::{self, WrongMark};
+use crate::owners;
 use crate::runs;
 use crate::sentences::{joined, Remedy};
+use crate::walk::{self, Met, Seen};
 
 /// Neighbouring entries with the same fault: L1 entries from `l1_index` on, or
 /// the L2 entries from `l2_index` on below it.
 #[derive(Debug, PartialEq)]
 pub struct BadRun {
+    /// In or below the L1 table of this snapshot, or else of the disk.
+    pub snapshot: Option<u64>,
     pub l1_index: u64,
     pub l2_index: Option<u64>,
     pub number: u64,
@@ -28,45 +32,43 @@ pub struct Bad {
     pub left_out: usize,
     pub entries: u64,
     pub compressed: u64,
+    /// May several L1 tables lead to one of them?
+    common: bool,
 }
 
 /// The most runs of a kind that are listed, so that the answer on any image
 /// fits into memory.
 const MOST: usize = 100_000;
 
-/// Every bad entry, in the order in which the check names the first.
+/// Every bad entry, in the order in which the check names the first. What
+/// several L1 tables have in common is named with the first of them.
 pub fn bad_entries(layout: &Layout, image: &[u8]) -> Bad {
-    let mut bad = Bad::default();
-    let mut open = None;
-    each_bad(layout, image, |run| bad.add(&mut open, run));
+    let trees = layout.with_snapshots(image);
+    let mut bad = Bad { common: trees.len() > 1, ..Bad::default() };
+    let (mut open, mut seen) = (None, Seen::none(layout));
+    for tree in &trees {
+        each_bad(tree, image, &mut seen, |run| bad.add(&mut open, run));
+    }
     bad.close(open);
     bad
 }
 
-/// Is there a bad entry with a fault that counts? The image may be refused.
+/// Has the disk a bad entry with a fault that counts? The image may be refused.
 pub fn any_bad(layout: &Layout, image: &[u8], counts: impl Fn(Fault) -> bool) -> bool {
     let mut any = false;
-    each_bad(layout, image, |run| any |= counts(run.fault));
+    each_bad(layout, image, &mut Seen::none(layout), |run| any |= counts(run.fault));
     any
 }
 
-/// Gives every bad entry as a run of one.
-fn each_bad(layout: &Layout, image: &[u8], mut found: impl FnMut(BadRun)) {
-    for l1_index in 0..layout.l1_size as u64 {
-        let Some(l1_entry) = be64(image, layout.l1_entry_at(l1_index)) else { break };
-        if let Some(fault) = l1_fault(layout, image, l1_entry) {
-            found(BadRun { l1_index, l2_index: None, number: 1, fault, entry: l1_entry });
-            continue;
+/// Gives every bad entry as a run of one; tables that were seen are left out.
+fn each_bad(layout: &Layout, image: &[u8], seen: &mut Seen, mut found: impl FnMut(BadRun)) {
+    let meet = |met: Met| {
+        let Met { snapshot, l1_index, l2_index, entry, fault } = met;
+        if let Some(fault) = fault {
+            found(BadRun { snapshot, l1_index, l2_index, number: 1, fault, entry });
         }
-        let Some(table) = layout.named(image, l1_entry) else { continue };
-        for (l2_index, entry) in image[table].chunks_exact(8).enumerate() {
-            let entry = be64(entry, 0).unwrap_or(0);
-            if let Some(fault) = l2_fault(layout, image, entry) {
-                let l2_index = Some(l2_index as u64);
-                found(BadRun { l1_index, l2_index, number: 1, fault, entry });
-            }
-        }
-    }
+    };
+    walk::entries(layout, image, |cluster| seen.is_first(cluster), meet);
 }
 
 impl BadRun {
@@ -79,7 +81,7 @@ impl BadRun {
             }
             _ => false,
         };
-        follows && self.fault == next.fault
+        follows && self.fault == next.fault && self.snapshot == next.snapshot
     }
 
     /// Guest offset and length.
@@ -88,8 +90,12 @@ impl BadRun {
         let each = if self.l2_index.is_none() { layout.per_table() } else { 1 };
         let offset = first << layout.bits;
         let length = (self.number * each) << layout.bits;
-        // The last table and the last cluster may reach past the disk's end.
-        (offset, length.min(layout.size.saturating_sub(offset)))
+        // The last table and the last cluster may reach past the disk's end; the
+        // disk that a snapshot kept goes as far as its L1 table.
+        match self.snapshot {
+            None => (offset, length.min(layout.size.saturating_sub(offset))),
+            Some(_) => (offset, length),
+        }
     }
 
     fn line(&self, layout: &Layout) -> String {
@@ -102,14 +108,15 @@ impl BadRun {
             None => format!("L1 {}", last(self.l1_index)),
             Some(l2_index) => format!("L2 {} below L1 entry {}", last(l2_index), self.l1_index),
         };
-        let fault = self.fault.text();
-        format!("    {place} ({length} bytes at guest offset {offset}): {fault}\n")
+        let (fault, whose) = (self.fault.text(), of_snapshot(self.snapshot));
+        format!("    {place}{whose} ({length} bytes at guest offset {offset}): {fault}\n")
     }
 
     fn object(&self, layout: &Layout) -> Json {
         let (offset, length) = self.range(layout);
         let mut members = vec![("l1_index", self.l1_index.into())];
         members.extend(self.l2_index.map(|index| ("l2_index", index.into())));
+        members.extend(self.snapshot.map(|number| ("snapshot", number.into())));
         members.extend([
             ("number", self.number.into()),
             ("guest_offset", offset.into()),
@@ -151,23 +158,39 @@ pub struct Damage {
     pub shared: Vec<(u64, u64)>,
     pub short: Vec<(u64, u64)>,
     pub leaked: Vec<(u64, u64)>,
+    /// Where nothing is bad or shared.
+    pub marks: Vec<WrongMark>,
+}
+
+/// Is it a bad entry that the check names?
+pub fn is_bad_entry(verdict: Verdict) -> bool {
+    matches!(
+        verdict,
+        Verdict::BadL1(_)
+            | Verdict::BadL2(..)
+            | Verdict::SnapshotBadL1(..)
+            | Verdict::SnapshotBadL2(..)
+    )
 }
 
 impl Damage {
     /// For the verdict and the scratch of a check. Bad entries are named first,
-    /// so there are none under another verdict.
+    /// then shared clusters, so there are none under another verdict.
     pub fn of(layout: &Layout, image: &[u8], verdict: Verdict, scratch: &[u8]) -> Damage {
-        let clusters = |wanted: &dyn Fn(u8, i32) -> bool| runs::of(layout, image, scratch, wanted);
-        let bad = match verdict {
-            Verdict::BadL1(_) | Verdict::BadL2(..) => bad_entries(layout, image),
-            _ => Bad::default(),
-        };
-        Damage {
-            bad,
-            shared: clusters(&|figure, _| figure > 1),
-            short: clusters(&|_, difference| difference < 0),
-            leaked: clusters(&|_, difference| difference > 0),
+        let by = |wanted: fn(i32) -> bool| runs::by_difference(layout, image, scratch, wanted);
+        let (short, leaked) = (by(|difference| difference < 0), by(|difference| difference > 0));
+        let mut damage = Damage { short, leaked, ..Damage::default() };
+        let is_bad = is_bad_entry(verdict);
+        if is_bad {
+            damage.bad = bad_entries(layout, image);
         }
+        if is_bad || matches!(verdict, Verdict::Shared(_)) {
+            let shared = owners::shared(layout, image);
+            damage.shared = runs::of((0..layout.clusters).filter(|&cluster| shared[cluster]));
+        } else {
+            damage.marks = marks::wrong(layout, image, scratch);
+        }
+        damage
     }
 
     /// Is nothing wrong but that there are compressed clusters?
@@ -185,6 +208,9 @@ impl Damage {
         } else if !self.shared.is_empty() {
             "Where two owners share a cluster, the bytes of one of them may be lost already: the \
              comparison is of what is read now."
+        } else if self.short.is_empty() {
+            "The disk's bytes are all there: by a wrong bit 63 a program that writes may change \
+             bytes of a snapshot."
         } else {
             "The disk's bytes are all there: a program that writes may take their clusters for free."
         };
@@ -195,7 +221,7 @@ impl Damage {
     pub fn lines(&self, layout: &Layout) -> String {
         const SHOWN: usize = 8;
         let mut text = String::new();
-        let Bad { runs, left_out, entries, compressed } = &self.bad;
+        let Bad { runs, left_out, entries, compressed, common } = &self.bad;
         if *entries > 0 {
             let of_these = match compressed {
                 0 => String::new(),
@@ -208,12 +234,22 @@ impl Damage {
                 0 => {}
                 more => text += &format!("    and {more} runs more\n"),
             }
+            if *common {
+                text += "    each is named once, with the first L1 table that leads to it\n";
+            }
         }
         for (name, runs) in self.lists().iter().filter(|list| !list.1.is_empty()) {
             text += &format!("  {name} clusters: {}\n", runs::text(runs));
         }
         if *entries > 0 && !self.leaked.is_empty() {
             text += "    some of them may be what bad entries refer to\n";
+        }
+        if !self.marks.is_empty() {
+            text += &format!("  wrong marks: {}\n", self.marks.len());
+            self.marks.iter().take(SHOWN).for_each(|mark| text += &mark.line());
+            if self.marks.len() > SHOWN {
+                text += &format!("    and {} more\n", self.marks.len() - SHOWN);
+            }
         }
         text
     }
@@ -234,6 +270,9 @@ impl Damage {
             members.push((name, Json::List(runs.iter().take(MOST).map(run).collect())));
             left_out += runs.len().saturating_sub(MOST);
         }
+        let marks = self.marks.iter().take(MOST).map(|mark| Json::Object(mark.members()));
+        members.push(("marks", Json::List(marks.collect())));
+        left_out += self.marks.len().saturating_sub(MOST);
         members.push(("runs_left_out", left_out.into()));
         members
     }

@@ -1,9 +1,10 @@
 //! What the header says, whether or not the image is accepted.
 
-use crate::fields::Fields;
+use crate::fields::{Fields, MAX_SNAPSHOTS};
 use crate::image_file::Own;
 use crate::json::Json;
 use crate::sentences::{named_bits, AUTOCLEAR_BITS, COMPATIBLE_BITS, INCOMPATIBLE_BITS};
+use crate::snapshots::{Snapshot, Table};
 use crate::width::Width;
 
 /// The header of a file, as lines and as members of a JSON object.
@@ -47,7 +48,24 @@ pub fn facts(bytes: &[u8], own: Own) -> Facts {
     for (name, said) in unusual(&fields, bytes) {
         text += &format!("{name}: {said}\n");
     }
-    Facts { text, members: members(&fields, bytes, file_size) }
+    let snapshots = listed(&fields, bytes);
+    snapshots.iter().for_each(|snapshot| text += &format!("  {}\n", snapshot.line()));
+    let others = fields.snapshots as usize - snapshots.len();
+    if others > 0 {
+        text += &format!("  and {others} that cannot be listed\n");
+    }
+    let mut members = members(&fields, bytes, file_size);
+    let objects = snapshots.iter().map(Snapshot::object).collect();
+    members.push(("snapshot_list", Json::List(objects)));
+    Facts { text, members }
+}
+
+/// The snapshots, as far as their table can be read and is not too long.
+fn listed(fields: &Fields, bytes: &[u8]) -> Vec<Snapshot> {
+    let at = fields.snapshots_at;
+    let stands = fields.cluster().is_some_and(|cluster| at != 0 && at.is_multiple_of(cluster));
+    let few = if stands { fields.snapshots.min(MAX_SNAPSHOTS) } else { 0 };
+    Table::of(bytes, &Fields { snapshots: few, ..*fields }).snapshots
 }
 
 /// Whole clusters, and a word on what is left.

@@ -13,11 +13,14 @@ pub const MAX_DISK: u64 = 1 << 40;
 pub const MAX_L1: u64 = 65_536;
 /// The disk is a whole number of these.
 pub const SECTOR: u64 = 512;
+/// The most snapshots that are accepted.
+pub const MAX_SNAPSHOTS: u32 = 64;
 /// The header_length that is accepted.
 pub const HEADER_LENGTH: u32 = 104;
 /// Bits 9 to 55 of an L1 or L2 entry: the place.
 pub const PLACE: u64 = 0x00FF_FFFF_FFFF_FE00;
-/// Bit 63: set in every good entry with a place.
+/// Bit 63: in an active entry it says that what is at the place has no other
+/// reference. Without a place it has to be clear.
 pub const USED: u64 = 1 << 63;
 /// Bit 62 of an L2 entry.
 pub const COMPRESSED: u64 = 1 << 62;
@@ -38,12 +41,18 @@ pub struct Fields {
     pub table_at: u64,
     pub table_clusters: u32,
     pub snapshots: u32,
+    /// The place of the snapshot table, if there are any.
+    pub snapshots_at: u64,
     /// Version 3, as are the next four; version 2 has 0, 0, 0, 4 and 104.
     pub incompatible: u64,
     pub compatible: u64,
     pub autoclear: u64,
     pub order: u32,
     pub header_length: u32,
+}
+
+pub fn be16(bytes: &[u8], at: usize) -> Option<u16> {
+    Some(u16::from_be_bytes(bytes.get(at..at.checked_add(2)?)?.try_into().ok()?))
 }
 
 pub fn be32(bytes: &[u8], at: usize) -> Option<u32> {
@@ -71,6 +80,7 @@ impl Fields {
             table_at: be64(bytes, 48)?,
             table_clusters: be32(bytes, 56)?,
             snapshots: be32(bytes, 60)?,
+            snapshots_at: be64(bytes, 64)?,
             incompatible: newer(be64(bytes, 72)?, 0),
             compatible: newer(be64(bytes, 80)?, 0),
             autoclear: newer(be64(bytes, AUTOCLEAR.start)?, 0),
@@ -82,6 +92,13 @@ impl Fields {
     /// Cluster size, if cluster_bits is accepted.
     pub fn cluster(&self) -> Option<u64> {
         BITS.contains(&self.cluster_bits).then(|| 1 << self.cluster_bits)
+    }
+
+    /// Bytes that so many L1 entries reach.
+    pub fn reach(&self, l1_size: u32) -> u64 {
+        self.cluster().map_or(0, |cluster| {
+            u64::from(l1_size).saturating_mul(cluster / 8).saturating_mul(cluster)
+        })
     }
 
     /// Has the image nothing that qemu would change when it opens it to write?
@@ -151,6 +168,7 @@ mod tests {
         let bytes = [1, 2, 3, 4, 5];
         assert_eq!(be32(&bytes, 1), Some(0x0203_0405));
         assert_eq!((be32(&bytes, 2), be32(&bytes, usize::MAX)), (None, None));
+        assert_eq!((be16(&bytes, 3), be16(&bytes, 4)), (Some(0x0405), None));
         assert_eq!((be64(&bytes, 0), be64(&bytes, usize::MAX - 7)), (None, None));
     }
 }

@@ -6,6 +6,8 @@ use crate::damage;
 use crate::fields::{be64, COMPRESSED, PLACE, USED};
 use crate::json::Json;
 use crate::layout::Layout;
+use crate::marks;
+use crate::runs::figure;
 
 /// Which rule an entry breaks.
 #[derive(Clone, Copy, Debug, PartialEq)]
@@ -17,7 +19,6 @@ pub enum Fault {
     NoPlace,
     Unaligned,
     PastEnd,
-    NotOwned,
 }
 
 impl Fault {
@@ -30,7 +31,6 @@ impl Fault {
             Fault::NoPlace => "no_place",
             Fault::Unaligned => "unaligned",
             Fault::PastEnd => "past_end",
-            Fault::NotOwned => "not_owned",
         }
     }
 
@@ -44,7 +44,6 @@ impl Fault {
             Fault::NoPlace => "bit 63 is set, but no place is given",
             Fault::Unaligned => "its place is no multiple of the cluster size",
             Fault::PastEnd => "its place lies past the file's end",
-            Fault::NotOwned => "bit 63 is clear, as for a shared cluster",
         }
     }
 
@@ -54,7 +53,6 @@ impl Fault {
         match self {
             Fault::Unaligned => format!("its place {place} is no multiple of the cluster size"),
             Fault::PastEnd => format!("its place {place} lies past the file's end"),
-            Fault::NotOwned => format!("its place is {place}, but {}", self.text()),
             _ => self.text().into(),
         }
     }
@@ -90,17 +88,20 @@ fn place_fault(layout: &Layout, image: &[u8], entry: u64) -> Option<Fault> {
     if !place.is_multiple_of(layout.cluster() as u64) {
         return Some(Fault::Unaligned);
     }
-    if layout.named(image, entry).is_none() {
-        return Some(Fault::PastEnd);
-    }
-    (entry & USED == 0).then_some(Fault::NotOwned)
+    layout.named(image, entry).is_none().then_some(Fault::PastEnd)
 }
 
 type Members = Vec<(&'static str, Json)>;
 
-/// The verdict as text, and as members of a JSON object.
-pub fn verdict(layout: &Layout, image: &[u8], verdict: Verdict) -> (String, Members) {
-    let (text, mut members) = words(layout, image, verdict);
+/// The verdict as text, and as members of a JSON object. The scratch is that of
+/// the check.
+pub fn verdict(
+    layout: &Layout,
+    image: &[u8],
+    verdict: Verdict,
+    scratch: &[u8],
+) -> (String, Members) {
+    let (text, mut members) = words(layout, image, verdict, scratch);
     members.push(("compressed", compressed(layout, image, verdict).into()));
     (text, members)
 }
@@ -108,34 +109,53 @@ pub fn verdict(layout: &Layout, image: &[u8], verdict: Verdict) -> (String, Memb
 /// The number of compressed clusters, so that compression can be told from
 /// damage.
 pub fn compressed(layout: &Layout, image: &[u8], verdict: Verdict) -> u64 {
-    match verdict {
-        Verdict::BadL1(_) | Verdict::BadL2(..) => damage::bad_entries(layout, image).compressed,
-        _ => 0,
+    match damage::is_bad_entry(verdict) {
+        true => damage::bad_entries(layout, image).compressed,
+        false => 0,
     }
 }
 
-fn words(layout: &Layout, image: &[u8], verdict: Verdict) -> (String, Members) {
+fn words(layout: &Layout, image: &[u8], verdict: Verdict, scratch: &[u8]) -> (String, Members) {
+    let at = |cluster: u64| format!("cluster {cluster} (at {})", cluster << layout.bits);
     match verdict {
         Verdict::Sound => ("sound".into(), vec![("verdict", "sound".into())]),
         Verdict::Leaks(number) => {
             (format!("leaks {number}"), vec![("verdict", "leaks".into()), ("leaks", number.into())])
         }
-        Verdict::BadL1(l1_index) => bad_l1(layout, image, l1_index),
-        Verdict::BadL2(l1_index, l2_index) => bad_l2(layout, image, l1_index, l2_index),
+        Verdict::BadL1(l1_index) => bad_l1(layout, image, l1_index, None),
+        Verdict::BadL2(l1_index, l2_index) => bad_l2(layout, image, [l1_index, l2_index], None),
+        Verdict::SnapshotBadL1(l1_index, snapshot) => {
+            bad_l1(layout, image, l1_index, Some(snapshot))
+        }
+        Verdict::SnapshotBadL2(l1_index, l2_index, snapshot) => {
+            bad_l2(layout, image, [l1_index, l2_index], Some(snapshot))
+        }
         Verdict::Shared(cluster) => {
-            let at = cluster << layout.bits;
-            let text = format!("damaged: cluster {cluster} (at {at}) has two references or more");
+            let text = format!("damaged: {} {}", at(cluster), shared_by(layout, image));
             (text, damaged("shared", vec![("cluster", cluster.into())]))
         }
         Verdict::Short(cluster) => {
-            let at = cluster << layout.bits;
             let stored = layout.count(image, cluster as usize).unwrap_or(0);
-            let text = format!(
-                "damaged: cluster {cluster} (at {at}) is in use, but its stored count is {stored}"
-            );
+            let used = match figure(scratch, cluster as usize) {
+                0 | 1 => "is in use".into(),
+                references => format!("has {references} references"),
+            };
+            let text = format!("damaged: {} {used}, but its stored count is {stored}", at(cluster));
             (text, damaged("short", vec![("cluster", cluster.into())]))
         }
+        Verdict::MarkL1(l1_index) => mark(layout, image, scratch, (l1_index, None)),
+        Verdict::MarkL2(l1_index, l2_index) => {
+            mark(layout, image, scratch, (l1_index, Some(l2_index)))
+        }
         Verdict::Refused(number) => (format!("refused {number}"), vec![("refused", number.into())]),
+    }
+}
+
+/// With snapshots some references may be common.
+fn shared_by(layout: &Layout, image: &[u8]) -> &'static str {
+    match layout.with_snapshots(image).len() {
+        1 => "has two references or more",
+        _ => "is used for two things, or twice for one",
     }
 }
 
@@ -145,35 +165,78 @@ fn damaged(finding: &'static str, more: Members) -> Members {
     members
 }
 
-fn bad_l1(layout: &Layout, image: &[u8], l1_index: u64) -> (String, Members) {
-    let entry = be64(image, layout.l1_entry_at(l1_index)).unwrap_or(0);
+/// The tables of a snapshot, or else of the disk.
+fn tree(layout: &Layout, image: &[u8], snapshot: Option<u64>) -> Layout {
+    let trees = layout.with_snapshots(image);
+    trees.into_iter().find(|tree| tree.snapshot == snapshot).unwrap_or(*layout)
+}
+
+/// After the name of an entry: whose it is.
+pub fn of_snapshot(snapshot: Option<u64>) -> String {
+    snapshot.map_or(String::new(), |number| format!(" of snapshot {number}"))
+}
+
+fn bad_l1(
+    layout: &Layout,
+    image: &[u8],
+    l1_index: u64,
+    snapshot: Option<u64>,
+) -> (String, Members) {
+    let tree = tree(layout, image, snapshot);
+    let entry = be64(image, tree.l1_entry_at(l1_index)).unwrap_or(0);
     let fault = l1_fault(layout, image, entry).map_or(String::new(), |fault| fault.about(entry));
-    let text = format!("damaged: L1 entry {l1_index} is 0x{entry:016x}: {fault}");
-    let more = vec![
+    let whose = of_snapshot(snapshot);
+    let text = format!("damaged: L1 entry {l1_index}{whose} is 0x{entry:016x}: {fault}");
+    let mut more = vec![
         ("l1_index", l1_index.into()),
         ("entry", format!("0x{entry:016x}").into()),
         ("reason", fault.into()),
     ];
+    more.extend(snapshot.map(|number| ("snapshot", number.into())));
     (text, damaged("entry", more))
 }
 
-fn bad_l2(layout: &Layout, image: &[u8], l1_index: u64, l2_index: u64) -> (String, Members) {
+fn bad_l2(
+    layout: &Layout,
+    image: &[u8],
+    [l1_index, l2_index]: [u64; 2],
+    snapshot: Option<u64>,
+) -> (String, Members) {
+    let tree = tree(layout, image, snapshot);
     let guest = l1_index * layout.per_table() + l2_index;
-    let entry = layout.l2_entry_at(image, guest).and_then(|at| be64(image, at)).unwrap_or(0);
+    let entry = tree.l2_entry_at(image, guest).and_then(|at| be64(image, at)).unwrap_or(0);
     let fault = l2_fault(layout, image, entry).map_or(String::new(), |fault| fault.about(entry));
-    let offset = guest << layout.bits;
+    let (offset, whose) = (guest << layout.bits, of_snapshot(snapshot));
     let text = format!(
-        "damaged: L2 entry {l2_index} below L1 entry {l1_index} (guest offset {offset}) is \
+        "damaged: L2 entry {l2_index} below L1 entry {l1_index}{whose} (guest offset {offset}) is \
          0x{entry:016x}: {fault}"
     );
-    let more = vec![
+    let mut more = vec![
         ("l1_index", l1_index.into()),
         ("l2_index", l2_index.into()),
         ("guest_offset", offset.into()),
         ("entry", format!("0x{entry:016x}").into()),
         ("reason", fault.into()),
     ];
+    more.extend(snapshot.map(|number| ("snapshot", number.into())));
     (text, damaged("entry", more))
+}
+
+/// The first wrong mark, in an image without bad entries.
+fn mark(
+    layout: &Layout,
+    image: &[u8],
+    scratch: &[u8],
+    index: (u64, Option<u64>),
+) -> (String, Members) {
+    let wrong = marks::wrong(layout, image, scratch);
+    let first = wrong.into_iter().find(|mark| (mark.l1_index, mark.l2_index) == index);
+    let (about, members) = first.map_or_else(Default::default, |it| (it.about(), it.members()));
+    let place = match index {
+        (l1_index, None) => format!("L1 entry {l1_index}"),
+        (l1_index, Some(l2_index)) => format!("L2 entry {l2_index} below L1 entry {l1_index}"),
+    };
+    (format!("damaged: mark of {place}: {about}"), damaged("mark", members))
 }
 
 /// What is said of compressed clusters beside a copy without them.
@@ -189,7 +252,9 @@ const ADVICE_COMPRESSED: &str =
                                  no damage; qstore check says how to make a copy without them.";
 
 pub fn advice(layout: &Layout, image: &[u8], verdict: Verdict) -> &'static str {
-    let Verdict::BadL2(..) = verdict else { return ADVICE };
+    if !damage::is_bad_entry(verdict) {
+        return ADVICE;
+    }
     let bad = damage::bad_entries(layout, image);
     if bad.compressed == bad.entries {
         ADVICE_COMPRESSED

@@ -25,7 +25,7 @@ macro_rules! allowance {
 pub const MAIN: &str = "\
 qstore: qcow2 images by the proved core
 
-  qstore info    IMAGE                  what the image is, its clusters, its verdict
+  qstore info    IMAGE                  what the image is, its snapshots, its verdict
   qstore check   IMAGE                  sound, leaks or damaged
   qstore repair  IMAGE                  give leaked clusters back
   qstore map     IMAGE                  where each guest range lies
@@ -40,7 +40,7 @@ qstore: qcow2 images by the proved core
 Numbers: 4096, 0x1000, or 4k, 1M, 1G, 1T (powers of 1024).
 
 Exit: 0 sound or finished, 1 failed, refused or stopped, 2 damaged, 3 leaks
-(3 only from check). A refusal has a number from 1 to 18 and says what to do.
+(3 only from check). A refusal has a number from 1 to 22 and says what to do.
 qemu's locks are taken: an image that a machine has open is not changed.
 ";
 
@@ -48,9 +48,12 @@ pub const INFO: &str = concat!(
     "\
 qstore info IMAGE [--json] [--share] [--as-if-mended]
 
-What the header says, clusters in use, free and leaked, and the verdict of the
-check. For an image that is refused: what its header says, and every obstacle
-with its remedy, in the order of doing.
+What the header says, the snapshots, clusters in use, free and leaked, and the
+verdict of the check. For an image that is refused: what its header says, and
+every obstacle with its remedy, in the order of doing.
+
+Of a snapshot: its number from 0, id, name, date, and the disk's size then, or
+what its L1 table reaches if the image does not say.
 ",
     looks!(),
     "
@@ -62,10 +65,12 @@ pub const CHECK: &str = concat!(
     "\
 qstore check IMAGE [--json] [--share] [--as-if-mended]
 
-Counts the references of every cluster and compares them with the stored
-counts. The verdict comes first, then all damage: bad entries, clusters with two
-references or more, clusters in use whose count is too low. The image is not
-changed.
+Counts the references of every cluster, from the disk and from every snapshot,
+and compares them with the stored counts. The verdict comes first, then all
+damage: bad entries, with the number of the snapshot whose they are; clusters
+that are used for two things or twice for one; clusters whose count is too low;
+wrong marks, which are entries of the disk whose bit 63 does not say whether
+there is another reference. The image is not changed.
 ",
     looks!(),
     "
@@ -78,7 +83,7 @@ pub const REPAIR: &str = concat!(
 qstore repair IMAGE [--json] [--allowance U] [--force]
 
 Sets the count of each leaked cluster to its references, so that it is free
-again. Guest bytes do not change. A damaged image is refused (17) and left as
+again. Guest bytes do not change, nor do those of snapshots. A damaged image is refused (17) and left as
 it is. So is a leaking one with autoclear_features: what looks leaked may be
 theirs, such as the clusters of qemu's persistent bitmaps.
 ",
@@ -107,10 +112,19 @@ Exit: 0, or 1 if the image or a run is refused.
 
 pub const READ: &str = concat!(
     "\
-qstore read IMAGE OFFSET LENGTH [--json] [--share] [--as-if-mended]
+qstore read IMAGE OFFSET LENGTH [--snapshot S] [--json] [--share]
+            [--as-if-mended]
 
 Writes the guest bytes to standard output. Nothing is written unless the whole
 range can be read. With --json the bytes are given in hex.
+
+S names a snapshot as info lists it: by its id, or by its name if no snapshot has
+that id, as qemu takes it; or else by its number from 0 after a #, as in '#0'. So
+a name that is also a number is reached if it is no snapshot's id, and by the
+number otherwise. A name that several have is refused. A range may go up to what
+the snapshot's L1 table reaches, which may be more than the disk had then.
+
+  --snapshot S    the bytes that a snapshot has kept, in place of the disk's
 ",
     looks!(),
     "
@@ -128,6 +142,8 @@ the file is not changed. The changes reach the file in the order of the core's
 list, each kind of unit flushed before the next, so that a power cut leaves an
 image that is sound or leaks.
 
+What a snapshot holds is never changed: a write to it is refused (22).
+
 autoclear_features are cleared first: qemu then no longer uses persistent
 bitmaps, which would lack the change.
 ",
@@ -143,7 +159,7 @@ qstore discard IMAGE OFFSET LENGTH [--json] [--allowance U]
 
 Gives whole guest clusters back; they read as zeros afterwards. OFFSET has to be
 a multiple of the cluster size, and so has LENGTH unless the range ends with
-the disk. L2 tables are kept.
+the disk. L2 tables are kept. What a snapshot holds is refused (22).
 
 autoclear_features are cleared first: qemu then no longer uses persistent
 bitmaps, which would lack the change.

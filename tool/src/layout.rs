@@ -3,19 +3,25 @@
 
 use std::ops::Range;
 
-use crate::fields::{be64, Fields, PLACE};
+use crate::fields::{be64, Fields, MAX_L1, PLACE};
+use crate::snapshots::{Snapshot, Table};
 use crate::width::Width;
 
+/// With one of the L1 tables: the active one, or that of a snapshot.
 #[derive(Clone, Copy)]
 pub struct Layout {
     pub version: u32,
     pub bits: u32,
     /// Of the stored counts.
     pub width: Width,
+    /// The number of the snapshot whose L1 table this is.
+    pub snapshot: Option<u64>,
+    /// The disk's size; of a snapshot what its L1 table reaches.
     pub size: u64,
     pub l1_size: usize,
     l1_at: usize,
     table_at: usize,
+    table_clusters: usize,
     /// Clusters of the image.
     pub clusters: usize,
 }
@@ -29,16 +35,41 @@ impl Layout {
             version: fields.version,
             bits: fields.cluster_bits,
             width: fields.width()?,
+            snapshot: None,
             size: fields.size,
             l1_size: fields.l1_size as usize,
             l1_at: usize::try_from(fields.l1_at).ok()?,
             table_at: usize::try_from(fields.table_at).ok()?,
+            table_clusters: fields.table_clusters as usize,
             clusters: image.len() / cluster as usize,
         })
     }
 
+    /// The same with the L1 table of a snapshot, if that is accepted.
+    pub fn of_snapshot(&self, image: &[u8], snapshot: &Snapshot) -> Option<Layout> {
+        let l1_at = usize::try_from(snapshot.l1_at).ok()?;
+        let l1_size = snapshot.l1_size as usize;
+        let inside = l1_at.checked_add(8 * l1_size).is_some_and(|end| end <= image.len());
+        let good = inside && l1_size <= MAX_L1 as usize && l1_at.is_multiple_of(self.cluster());
+        let (number, size) = (Some(snapshot.number), snapshot.reach);
+        good.then_some(Layout { snapshot: number, size, l1_size, l1_at, ..*self })
+    }
+
+    /// This one, and then one for each snapshot.
+    pub fn with_snapshots(&self, image: &[u8]) -> Vec<Layout> {
+        let table = Fields::read(image).map(|fields| Table::of(image, &fields));
+        let snapshots = table.unwrap_or_default().snapshots;
+        let others = snapshots.iter().filter_map(|snapshot| self.of_snapshot(image, snapshot));
+        [*self].into_iter().chain(others).collect()
+    }
+
     pub fn cluster(&self) -> usize {
         1 << self.bits
+    }
+
+    /// Bytes of the scratch that a check needs.
+    pub fn scratch(&self) -> usize {
+        2 * self.clusters
     }
 
     /// Guest clusters that begin below the disk's end.
@@ -52,7 +83,25 @@ impl Layout {
     }
 
     pub fn l1_entry_at(&self, l1_index: u64) -> usize {
-        self.l1_at + 8 * l1_index as usize
+        self.l1_at.saturating_add(8 * l1_index as usize)
+    }
+
+    /// The clusters of the L1 table.
+    pub fn l1_clusters(&self) -> Range<usize> {
+        let first = self.l1_at >> self.bits;
+        first..first + (8 * self.l1_size).div_ceil(self.cluster())
+    }
+
+    /// The clusters of the refcount table.
+    pub fn table_clusters(&self) -> Range<usize> {
+        let first = self.table_at >> self.bits;
+        first..first + self.table_clusters
+    }
+
+    /// The clusters of the refcount blocks.
+    pub fn blocks<'a>(&'a self, image: &'a [u8]) -> impl Iterator<Item = usize> + 'a {
+        let firsts = (0..self.clusters).step_by(self.per_block());
+        firsts.filter_map(|first| Some(self.block_of(image, first)?.0 >> self.bits))
     }
 
     /// The place of the L2 entry of a guest cluster, if its L1 entry names a

@@ -5,10 +5,8 @@
 use std::mem::take;
 use std::path::Path;
 
-use qcow2_core::Verdict;
-
 use crate::damage;
-use crate::fields::{Fields, HEADER_LENGTH, MAX_IMAGE, MAX_L1, SECTOR};
+use crate::fields::{Fields, HEADER_LENGTH, MAX_IMAGE, MAX_L1, MAX_SNAPSHOTS, SECTOR};
 use crate::layout::Layout;
 use crate::mended;
 use crate::sentences::{
@@ -165,6 +163,7 @@ impl Probe<'_> {
             7 => self.put(72, &[0; 8]),
             8 => self.mend_size(&fields),
             18 => self.put(24, &[0; 8]),
+            21 => self.put(60, &[0; 4]),
             _ => return false,
         }
         true
@@ -185,7 +184,9 @@ impl Probe<'_> {
     fn mend_features(&mut self, fields: &Fields) {
         self.put(8, &[0; 8]);
         self.put(32, &[0; 4]);
-        self.put(60, &[0; 4]);
+        if fields.snapshots > MAX_SNAPSHOTS {
+            self.put(60, &[0; 4]);
+        }
         if fields.version == 3 {
             self.put(100, &HEADER_LENGTH.to_be_bytes());
         }
@@ -209,9 +210,8 @@ impl Probe<'_> {
     /// Compressed clusters of an image that would be accepted.
     fn compressed(&self) -> Option<Sentence> {
         let layout = Layout::of(self.bytes).filter(|_| self.reach == Reach::Tables)?;
-        let mut scratch = vec![0; layout.clusters];
-        let verdict = qcow2_core::check(self.bytes, &mut scratch);
-        if !matches!(verdict, Verdict::BadL1(_) | Verdict::BadL2(..)) {
+        let mut scratch = vec![0; layout.scratch()];
+        if !damage::is_bad_entry(qcow2_core::check(self.bytes, &mut scratch)) {
             return None;
         }
         let entries = damage::bad_entries(&layout, self.bytes).compressed;

@@ -122,7 +122,7 @@ impl<D: Disk> Ordered<D> {
         allowance: u64,
         mut done: impl FnMut(u64, u64),
     ) -> Result<Outcome, Fault> {
-        let mut scratch = vec![0; self.layout.clusters];
+        let mut scratch = vec![0; self.layout.scratch()];
         let outcome = qcow2_core::repair(&mut self.work, &mut scratch, u64::MAX);
         let Outcome::Finished(units) = outcome else { return Ok(outcome) };
         let batches = cuts::of_repair(&self.layout, &self.disk, &self.work).map_err(Fault::Load)?;

@@ -2,22 +2,32 @@
 
 use qcow2_core::difference;
 
+use crate::fields::be16;
 use crate::layout::Layout;
 
-/// Clusters that are wanted by the scratch's figure and the difference of
-/// stored count and figure, as first and number; the scratch is that of a check.
-pub fn of(
+/// A cluster's references in the scratch of a check, two bytes each.
+pub fn figure(scratch: &[u8], cluster: usize) -> u16 {
+    be16(scratch, 2 * cluster).unwrap_or(0)
+}
+
+/// Clusters that are wanted by the difference of stored count and figure, as
+/// first and number; the scratch is that of a check.
+pub fn by_difference(
     layout: &Layout,
     image: &[u8],
     scratch: &[u8],
-    wanted: &dyn Fn(u8, i32) -> bool,
+    wanted: impl Fn(i32) -> bool,
 ) -> Vec<(u64, u64)> {
-    let mut runs: Vec<(u64, u64)> = Vec::new();
-    for (cluster, &figure) in scratch.iter().take(layout.clusters).enumerate() {
+    of((0..layout.clusters).filter(|&cluster| {
         let stored = layout.count(image, cluster).unwrap_or(0);
-        if !wanted(figure, difference(stored, figure)) {
-            continue;
-        }
+        wanted(difference(stored, figure(scratch, cluster)))
+    }))
+}
+
+/// Clusters, rising, as first and number.
+pub fn of(clusters: impl Iterator<Item = usize>) -> Vec<(u64, u64)> {
+    let mut runs: Vec<(u64, u64)> = Vec::new();
+    for cluster in clusters {
         match runs.last_mut() {
             Some((first, number)) if *first + *number == cluster as u64 => *number += 1,
             _ => runs.push((cluster as u64, 1)),

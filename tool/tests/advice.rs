@@ -9,7 +9,8 @@ use std::path::Path;
 use std::process::Command;
 
 use common::drive::Random;
-use common::made::{guest_by_tables, made, names_past, put64, Made};
+use common::kept::{copied, of_qemu};
+use common::made::{guest_by_tables, made, names_past, put64, snapshots_by_tables, Made};
 use common::{bench_image, images, Copy};
 use qstore::obstacles;
 use qstore::sentences::commands::Commands;
@@ -60,6 +61,7 @@ fn nothing_is_lost(before: &[u8], after: &[u8]) {
     assert!(before[both..].iter().chain(&after[both..]).all(|&byte| byte == 0));
     assert!(after.len() >= before.len() || !names_past(before, after.len()));
     assert!(guest_by_tables(before) == guest_by_tables(after));
+    assert!(snapshots_by_tables(before) == snapshots_by_tables(after));
 }
 
 /// Heeds the first refusal until there is none; the numbers met.
@@ -106,6 +108,11 @@ fn what_is_advised_loses_no_byte() {
     as_qemu_makes_it.truncate(block_at + 30 * 512 + 100);
     put64(&mut as_qemu_makes_it, 512 + 8, 0);
     case("advice-made", &as_qemu_makes_it, "check IMAGE", &[], &[5, 6]);
+    // As qemu makes it, with a snapshot.
+    let mut with_snapshot = of_qemu().0;
+    with_snapshot[103] = 112;
+    with_snapshot.push(0);
+    case("advice-snapshot", &with_snapshot, "check IMAGE", &[], &[5, 6]);
     // Clusters 256 and up have no counts: zeros that nothing names.
     let mut lengthened = image.clone();
     put64(&mut lengthened, 512 + 8, 0);
@@ -165,9 +172,15 @@ fn a_lost_table_entry_cuts_nothing_off() {
 #[test]
 fn advice_on_any_image() {
     let mut random = Random(11);
-    let bases = [bench_image(), with_data().image, made(2, 10, 700, 1 << 20).image];
+    let bases = [
+        bench_image(),
+        with_data().image,
+        made(2, 10, 700, 1 << 20).image,
+        of_qemu().0,
+        copied().bytes,
+    ];
     let (mut run, mut accepted) = (BTreeSet::new(), 0);
-    for round in 0..800 {
+    for round in 0..1200 {
         let mut image = bases[round % bases.len()].clone();
         spoil(&mut image, &mut random);
         let length = image.len() as u64;
@@ -186,7 +199,7 @@ fn advice_on_any_image() {
         // Where all can be done in place, it is enough.
         if texts.iter().all(|text| text.contains('`') && !text.contains("qemu-img")) {
             let image = copy.bytes();
-            let mut scratch = vec![0; image.len() / 512 + 1];
+            let mut scratch = vec![0; image.len() / 256];
             let verdict = qcow2_core::check(&image, &mut scratch);
             assert!(!matches!(verdict, qcow2_core::Verdict::Refused(_)), "{texts:?}");
             accepted += 1;
@@ -211,7 +224,7 @@ fn spoil(image: &mut Vec<u8>, random: &mut Random) {
                 put64(image, at, (1 << 63) | (512 * random.below(800) as u64));
             }
             7 => put64(image, 512 + 8 * random.below(4), 512 * random.below(700) as u64),
-            _ => image[[15, 63, 79, 31, 104, 112][random.below(6)]] ^= 1,
+            _ => image[[15, 62, 63, 70, 79, 31, 104, 112][random.below(8)]] ^= 1,
         }
     }
 }

@@ -8,6 +8,7 @@ use std::os::unix::ffi::OsStringExt;
 use std::path::Path;
 use std::process::Command;
 
+use common::kept::{copied, kept, TABLE};
 use common::made::{get64, made, put64, Made};
 use common::{bench_image, Copy};
 
@@ -68,7 +69,7 @@ fn what_the_new_one_lacks() {
         }
     }
     // With both, and a snapshot comes before most other numbers.
-    let copy = with("lacks-snapshots", &|image| (image[63], image[95]) = (2, 1));
+    let copy = with("lacks-snapshots", &|image| (image[63], image[95]) = (65, 1));
     too_long(&copy);
     let text = said(&copy);
     assert!(text.contains("refused (5)"), "{text}");
@@ -101,20 +102,56 @@ fn bad_entries() {
     let short = with("bad-short", &|image| image[1025] = 0);
     let text = said(&short);
     assert!(text.contains("The disk's bytes are all there") && text.contains("qemu-img compare"));
-    // With snapshots bit 63 is clear in good entries.
+    // A wrong bit 63 is nothing to who reads.
     let clear: Change = &|image| {
         let at = l2_at(image);
         image[at] = 0;
     };
-    let text = said(&with("bad-clear", &|image| (image[63] = 1, clear(image)).1));
+    let text = said(&with("bad-clear", clear));
+    assert!(text.starts_with("damaged: mark of L2 entry 0 below L1 entry 0: bit 63 is"), "{text}");
     assert!(!text.contains("--salvage") && text.contains("qemu-img compare"), "{text}");
-    assert!(said(&with("bad-clear", clear)).contains("--salvage"));
+}
+
+/// What only a snapshot names past the end: the file is cut short too, and a copy
+/// of the disk needs no salvage.
+#[test]
+fn cut_short_for_a_snapshot() {
+    let mut made = copied();
+    made.put64(TABLE + 8, 15 * 512);
+    made.set_count(15, 1);
+    for (length, cut) in [(15 * 512 + 1, false), (14 * 512 + 1, true), (7 * 512 + 1, true)] {
+        let mut image = made.bytes.clone();
+        image.truncate(length);
+        let text = said(&Copy::with(&image, "cut-kept"));
+        assert!(text.contains("refused (5)"), "{text}");
+        let advised = text.contains("It seems to be cut short: look for a whole copy first.");
+        assert_eq!(advised, cut, "{length}: {text}");
+        assert_eq!(text.contains("`truncate -s %512 "), !cut, "{length}: {text}");
+        assert_eq!(text.contains("--salvage"), length < 8 * 512, "{length}: {text}");
+    }
+    // Its table and its L1 table, where the file ends before them.
+    let mut made = kept(1);
+    made.put64(64, 13 * 512);
+    made.bytes.copy_within(6 * 512..7 * 512, 13 * 512);
+    made.put64(13 * 512, 14 * 512);
+    for (length, sentence) in [
+        (13 * 512, "entry 0 of the snapshot table at 6656 runs past the file's end at 6656"),
+        (14 * 512, "stands at 7168 and has 16 bytes, so it runs past the file's end at 7168"),
+    ] {
+        let mut image = made.bytes.clone();
+        image.truncate(length);
+        let text = said(&Copy::with(&image, "cut-table"));
+        assert!(text.contains("refused (21)") && text.contains(sentence), "{text}");
+        assert!(
+            text.contains("look for a whole copy first") && text.contains("lacks the snapshots")
+        );
+    }
 }
 
 /// Padding is not advised apart from the copy, which may have failed.
 #[test]
 fn a_copy_is_one_command() {
-    let text = said(&with("one-command", &|image| image[63] = 1));
+    let text = said(&with("one-command", &|image| image[63] = 65));
     let command = text.split('`').nth(1).unwrap();
     assert!(command.starts_with("qemu-img convert -f qcow2 -O qcow2 "), "{text}");
     assert!(command.contains(".new && truncate -s %65536 "), "{text}");
@@ -167,7 +204,7 @@ fn whole_sectors_first() {
 
 #[test]
 fn names_that_cannot_be_printed() {
-    let copy = with("name", &|image| image[63] = 1);
+    let copy = with("name", &|image| image[63] = 65);
     for name in [&b"name-\xFF"[..], b"name-\x1B[2J"] {
         let mut path = copy.path.clone().into_os_string().into_vec();
         path.extend(name);
@@ -191,15 +228,17 @@ fn names_that_cannot_be_printed() {
 /// No command where qemu refuses the image too, whatever the number is.
 #[test]
 fn what_qemu_refuses() {
-    let cases: [(&str, Change); 8] = [
+    let cases: [(&str, Change); 10] = [
         ("such a compression type", &|image| image[79] = 8),
         ("such a compression type", &|image| (image[79], image[103], image[104]) = (8, 112, 0)),
         ("such a compression type", &|image| (image[103], image[104]) = (112, 1)),
         ("such a crypt_method", &|image| image[35] = 3),
         ("such a refcount_order", &|image| image[99] = 7),
         ("such a header_length", &|image| image[103] = 96),
-        ("such tables", &|image| (image[63], image[24]) = (1, 1)),
-        ("Only a program that knows all bits", &|image| (image[63], image[79]) = (1, 32)),
+        ("such tables", &|image| (image[63], image[24]) = (65, 1)),
+        ("such a snapshot table", &|image| (image[63], image[71]) = (65, 1)),
+        ("such a snapshot table", &|image| (image[61], image[63]) = (1, 1)),
+        ("Only a program that knows all bits", &|image| (image[63], image[79]) = (65, 32)),
     ];
     for (reason, change) in cases {
         let (copy, long) = (with("refuses", change), with("refuses-long", change));
@@ -208,6 +247,17 @@ fn what_qemu_refuses() {
             assert!(text.contains(reason), "{reason}: {text}");
             assert!(!text.contains('`') && !text.contains("with the key"), "{text}");
         }
+    }
+    // A snapshot with more extra data than qemu takes, whether or not it is there.
+    for (extra, refuses) in [(1024u32, false), (1025, true), (u32::MAX, true)] {
+        let copy = with("refuses-extra", &|image| {
+            (image[63], image[69], image[70]) = (1, 0, 28);
+            image[7168 + 36..7168 + 40].copy_from_slice(&extra.to_be_bytes());
+        });
+        let text = said(&copy);
+        assert!(text.contains("refused (21): entry 0 of the snapshot table at 7168"), "{text}");
+        assert_eq!(text.contains("such a snapshot table"), refuses, "{text}");
+        assert_eq!(text.contains('`'), !refuses, "{text}");
     }
     let text = said(&with("encrypted", &|image| image[35] = 2));
     assert!(text.contains("Only qemu with the key can read it"), "{text}");
@@ -223,16 +273,24 @@ fn what_qemu_refuses() {
 #[test]
 fn blocks_that_are_in_use() {
     let Made { image, block_at, l1_at, .. } = made(3, 9, 300, 1 << 20);
-    let cut = |second: usize| {
-        let mut image = image.clone();
+    let cut = |mut image: Vec<u8>, second: usize| {
         image.truncate(200 * 512);
         put64(&mut image, 512 + 8, second as u64);
         said(&Copy::with(&image, "block-in-use"))
     };
-    assert!(cut(block_at + 512).contains("`truncate -s +"), "{}", cut(block_at + 512));
-    for second in [block_at, 512, l1_at] {
-        let text = cut(second);
-        assert!(text.contains("refused (10)") && !text.contains("`truncate -s +"), "{text}");
-        assert!(text.contains("`qemu-img convert "), "{text}");
+    // A snapshot with its L1 table in cluster 150 and its entry in cluster 151.
+    let mut kept = image.clone();
+    (kept[63], kept[151 * 512 + 11]) = (1, 1);
+    put64(&mut kept, 64, 151 * 512);
+    put64(&mut kept, 151 * 512, 150 * 512);
+    for image in [image, kept] {
+        let text = cut(image.clone(), block_at + 512);
+        assert!(text.contains("`truncate -s +"), "{text}");
+        let more = if image[63] == 0 { vec![] } else { vec![150 * 512, 151 * 512] };
+        for second in [block_at, 512, l1_at].into_iter().chain(more) {
+            let text = cut(image.clone(), second);
+            assert!(text.contains("refused (10)") && !text.contains("`truncate -s +"), "{text}");
+            assert!(text.contains("`qemu-img convert "), "{text}");
+        }
     }
 }

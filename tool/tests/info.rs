@@ -40,26 +40,26 @@ fn numbers(copy: &Copy) -> Vec<u32> {
 #[test]
 fn all_obstacles() {
     type Case<'a> = (&'a [u32], &'a dyn Fn(&mut Vec<u8>));
-    let cases: [Case; 24] = [
+    let cases: [Case; 31] = [
         (&[], &|_| ()),
         (&[1], &|image| image.truncate(511)),
         (&[2], &|image| image[0] = 0),
         (&[3], &|image| image[7] = 4),
         (&[4], &|image| image[23] = 8),
-        (&[4, 6, 7], &|image| (image[23], image[63], image[79]) = (30, 1, 1)),
+        (&[4, 6, 7], &|image| (image[23], image[63], image[79]) = (30, 65, 1)),
         (&[5], &|image| image.push(0)),
         (&[5, 6], &|image| (image.truncate(1552), image[103] = 112).1),
         (&[5, 6, 7, 8, 18, 9], &|image| {
             image.push(0);
             (image[15], image[79], image[24], image[31], image[43]) = (1, 1, 1, 1, 1);
         }),
-        (&[6, 7], &|image| (image[63], image[79]) = (1, 8)),
+        (&[6, 7], &|image| (image[63], image[79]) = (65, 8)),
         (&[6, 7, 10], &|image| (image[103], image[79], image[518]) = (112, 2, 5)),
         // The width of the counts is not known, nor which blocks there should be.
         (&[6], &|image| (image[99], image[518]) = (7, 5)),
         (&[6, 8], &|image| (image[99], image[24], image[518]) = (7, 1, 5)),
         (&[10], &|image| (image[99], image[518]) = (3, 5)),
-        (&[6, 10], &|image| (image[99], image[63], image[518]) = (6, 1, 5)),
+        (&[6, 10], &|image| (image[99], image[63], image[518]) = (6, 65, 5)),
         (&[7, 10], &|image| (image[79], image[518]) = (1, 5)),
         (&[8], &|image| image[24] = 1),
         (&[8, 18], &|image| (image[24], image[31]) = (1, 1)),
@@ -69,6 +69,16 @@ fn all_obstacles() {
         (&[18, 9], &|image| (image[29], image[31], image[55]) = (0, 1, 1)),
         (&[9], &|image| (image[43], image[518]) = (1, 5)),
         (&[10], &|image| image[518] = 5),
+        (&[21], &|image| (image[63], image[71]) = (1, 1)),
+        (&[21], &|image| (image[63], image[70], image[2055]) = (1, 8, 1)),
+        (&[], &|image| (image[63], image[70], image[1033]) = (1, 8, 1)),
+        (&[5, 6, 21], &|image| {
+            (image.push(0), (image[63], image[71], image[103]) = (64, 1, 112)).1
+        }),
+        (&[7, 21], &|image| (image[63], image[71], image[79]) = (1, 1, 1)),
+        // Without snapshots their table is not looked at.
+        (&[6], &|image| (image[63], image[71]) = (65, 1)),
+        (&[8, 18, 21], &|image| (image[24], image[31], image[63], image[71]) = (1, 1, 1, 1)),
     ];
     for (index, (wanted, change)) in cases.into_iter().enumerate() {
         let copy = with("obstacles", change);
@@ -86,7 +96,7 @@ fn remedies_in_the_order_of_doing() {
     assert!(pad.is_some() && pad < set && !text.contains("qemu-img"), "{text}");
     let copy = with("anew", &|image| {
         image.truncate(1552);
-        (image[63], image[79]) = (2, 1);
+        (image[63], image[79]) = (65, 1);
     });
     let text = copy.run("info IMAGE").text;
     assert_eq!(numbers(&copy), [5, 6, 7]);
@@ -94,7 +104,7 @@ fn remedies_in_the_order_of_doing() {
     assert_eq!(text.matches("The new image does not have this.").count(), 2, "{text}");
     assert!(!text.contains("truncate -s %512") && text.contains("lacks the snapshots"), "{text}");
     // A new image made by qemu would lack the last bytes of such a disk.
-    let copy = with("sectors", &|image| (image[63], image[29], image[31]) = (2, 0, 3));
+    let copy = with("sectors", &|image| (image[63], image[29], image[31]) = (65, 0, 3));
     let text = copy.run("info IMAGE").text;
     assert_eq!(numbers(&copy), [6, 18]);
     assert!(
@@ -108,7 +118,7 @@ fn remedies_in_the_order_of_doing() {
     assert!(text.contains("(18): the disk has 72057594037993475 bytes,"), "{text}");
     assert!(text.contains("the L1 table stands at 1536 and has 134217744 bytes"), "{text}");
     // What no new image changes keeps its own sentence.
-    let copy = with("disk", &|image| (image[63], image[24]) = (2, 1));
+    let copy = with("disk", &|image| (image[63], image[24]) = (65, 1));
     let text = copy.run("info IMAGE").text;
     assert_eq!(numbers(&copy), [6, 8]);
     assert!(text.contains("No command makes a disk shorter"), "{text}");
@@ -137,7 +147,7 @@ fn what_the_header_says() {
     let copy = with("facts", &|image| {
         image[104..109].copy_from_slice(b"b.raw");
         (image[15], image[19]) = (104, 5);
-        (image[35], image[63], image[99], image[103]) = (2, 3, 0, 112);
+        (image[35], image[63], image[99], image[103]) = (2, 65, 0, 112);
         (image[79], image[87], image[95]) = (0b10_0001, 1, 3);
     });
     let text = copy.run("info IMAGE").text;
@@ -153,9 +163,9 @@ fn what_the_header_says() {
         "autoclear_features: 0x3: bit 0 (persistent bitmaps), bit 1 (raw external data)\n",
         "backing file: \"b.raw\"\n",
         "encryption method: 2\n",
-        "snapshots: 3\n",
+        "snapshots: 65\n  and 65 that cannot be listed\n",
         "refused (6): the image has a backing file, \"b.raw\"; the disk is encrypted (LUKS); the \
-         image has 3 internal snapshot(s); header_length is 112 as qemu 5.1 and later make it, and \
+         image has 65 internal snapshots, and at most 64 are accepted; header_length is 112 as qemu 5.1 and later make it, and \
          only 104 is accepted\n",
     ] {
         assert!(text.contains(line), "{line}: {text}");
@@ -163,7 +173,7 @@ fn what_the_header_says() {
     let json = copy.run("info IMAGE --json").text;
     for member in [
         "\"version\": 3, \"file_size\": 8192, \"cluster_size\": 512, \"clusters\": 16,",
-        "\"backing_file\": \"b.raw\", \"crypt_method\": 2, \"snapshots\": 3,",
+        "\"backing_file\": \"b.raw\", \"crypt_method\": 2, \"snapshots\": 65,",
         "\"refcount_bits\": 1, \"header_length\": 112, \"incompatible_features\": 33,",
         "\"features\": [\"incompatible_features bit 0 (dirty: its counts may be wrong)\", ",
     ] {
@@ -184,7 +194,7 @@ fn what_the_header_says() {
 
 #[test]
 fn files_that_are_too_long() {
-    let copy = with("info-long", &|image| (image[63], image[103]) = (1, 112));
+    let copy = with("info-long", &|image| (image[63], image[103]) = (65, 112));
     OpenOptions::new().write(true).open(&copy.path).unwrap().set_len((1 << 30) + 512).unwrap();
     let text = copy.run("info IMAGE").text;
     assert!(text.starts_with("version: 3\nfile size: 1073742336 "), "{text}");

@@ -6,16 +6,18 @@ mod common;
 
 use std::fs;
 
+use ::made::rng::Rng;
+use ::made::snapshot_drive;
 use common::drive::{put, sectors, torn, usable, Drive, Random};
 use common::made::{get_count, largest, made_at, put_count, Made};
 use common::{bench_image, images};
-use qcow2_core::{check, read, translate, Found, Outcome, Verdict};
+use qcow2_core::{check, read, read_snapshot, translate, Found, Outcome, Verdict};
 use qstore::call::Call;
 use qstore::layout::Layout;
 use qstore::ordered::{Fault, Ordered};
 
 fn verdict(image: &[u8]) -> Verdict {
-    check(image, &mut vec![0; image.len() / 512])
+    check(image, &mut vec![0; image.len() / 256])
 }
 
 /// Were the autoclear bits cleared?
@@ -27,6 +29,17 @@ fn guest(image: &[u8], size: u64) -> Vec<u8> {
     let mut bytes = vec![0; size as usize];
     read(image, 0, &mut bytes).expect("an accepted read");
     bytes
+}
+
+/// The bytes of every snapshot.
+fn kept(image: &[u8]) -> Vec<Vec<u8>> {
+    let trees = Layout::of(image).unwrap().with_snapshots(image);
+    let read = |tree: &Layout| {
+        let mut bytes = vec![0; tree.size as usize];
+        read_snapshot(image, tree.snapshot.unwrap(), 0, &mut bytes).expect("an accepted read");
+        bytes
+    };
+    trees[1..].iter().map(read).collect()
 }
 
 /// At times sets autoclear bits, where the image has a field for them.
@@ -55,6 +68,7 @@ fn follow(image: &[u8], call: Call, random: &mut Random) -> Vec<u8> {
     assert!(drive.open.is_empty(), "something was not flushed");
     assert!(drive.epochs.remove(0).is_empty(), "stored before the first flush");
     let (old, new) = (guest(image, layout.size), guest(&wanted, layout.size));
+    let snapshots = kept(image);
     let Outcome::Finished(units) = outcome else { panic!("{outcome:?}") };
     let others = units - u64::from(cleared(image, &wanted));
     let counts = stores_a_count(&call, &layout, others);
@@ -70,6 +84,7 @@ fn follow(image: &[u8], call: Call, random: &mut Random) -> Vec<u8> {
         states.push(state.clone());
         for state in states {
             assert!(verdict(&state).is_usable(), "{:?}", verdict(&state));
+            assert!(kept(&state) == snapshots, "a byte of a snapshot");
             let seen = guest(&state, layout.size);
             for at in 0..seen.len() {
                 let allowed = seen[at] == old[at] || request.contains(&at) && seen[at] == new[at];
@@ -135,6 +150,27 @@ fn a_cut_anywhere_at_every_width() {
     }
 }
 
+/// The same beside snapshots, which keep every byte.
+#[test]
+fn a_cut_anywhere_beside_snapshots() {
+    let mut random = Random(3);
+    let mut rng = Rng::from_env("cuts beside snapshots", 17);
+    let (mut tried, mut changed) = (0, 0);
+    while tried < 50 {
+        let made = snapshot_drive::usable(&mut rng);
+        let layout = Layout::of(&made.bytes).unwrap();
+        let trees = layout.with_snapshots(&made.bytes);
+        if layout.size == 0 || trees.iter().any(|tree| tree.size > 1 << 19) {
+            continue;
+        }
+        tried += 1;
+        changed += usize::from(series(made.bytes.clone(), 6, &mut random) != made.bytes);
+    }
+    assert!(changed > 30, "{changed}");
+    let image = fs::read(images().join("22-v3-512-snapshot.qcow2")).unwrap();
+    series(image, 40, &mut random);
+}
+
 /// Writes to where zero marks are, then discards and writes in turn.
 fn series(mut image: Vec<u8>, turns: usize, random: &mut Random) -> Vec<u8> {
     let layout = Layout::of(&image).unwrap();
@@ -144,25 +180,26 @@ fn series(mut image: Vec<u8>, turns: usize, random: &mut Random) -> Vec<u8> {
     for offset in zeros {
         set_bits(&mut image, &layout, random);
         let data = vec![7; 1 + random.below(300)];
-        image = unless_full(image, Call::Write { offset: offset + 100, data: &data }, random);
+        image = unless_refused(image, Call::Write { offset: offset + 100, data: &data }, random);
     }
     for _ in 0..turns {
         let cluster = random.below(layout.guest_clusters() as usize) as u64;
         set_bits(&mut image, &layout, random);
-        image = follow(&image, Call::Discard { cluster }, random);
+        image = unless_refused(image, Call::Discard { cluster }, random);
         set_bits(&mut image, &layout, random);
         let offset = random.below(layout.size as usize);
         let room =
             (layout.cluster() - offset % layout.cluster()).min(layout.size as usize - offset);
         let data: Vec<u8> = (0..1 + random.below(room)).map(|k| (k % 255) as u8 + 1).collect();
-        image = unless_full(image, Call::Write { offset: offset as u64, data: &data }, random);
+        image = unless_refused(image, Call::Write { offset: offset as u64, data: &data }, random);
     }
     image
 }
 
-fn unless_full(image: Vec<u8>, call: Call, random: &mut Random) -> Vec<u8> {
+/// Unless there is no room, or a snapshot holds what would be changed.
+fn unless_refused(image: Vec<u8>, call: Call, random: &mut Random) -> Vec<u8> {
     match call.run(&mut image.clone(), 0) {
-        Outcome::Refused(14) => image,
+        Outcome::Refused(14 | 22) => image,
         _ => follow(&image, call, random),
     }
 }

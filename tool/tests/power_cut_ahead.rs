@@ -20,7 +20,7 @@ use qstore::layout::Layout;
 use qstore::report::Failure;
 
 fn verdict(image: &[u8]) -> Verdict {
-    check(image, &mut vec![0; image.len() / 512])
+    check(image, &mut vec![0; image.len() / 256])
 }
 
 fn guest(image: &[u8], size: u64) -> Vec<u8> {

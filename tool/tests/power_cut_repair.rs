@@ -5,6 +5,8 @@ mod common;
 
 use std::io;
 
+use ::made::rng::Rng;
+use ::made::snapshot_drive;
 use common::made::{get_count, largest, made_at, put_count, Made};
 use qcow2_core::{check, repair, Outcome, Verdict};
 use qstore::disk::Disk;
@@ -114,10 +116,36 @@ fn the_clearing_unit_is_the_first() {
     }
 }
 
+/// Beside snapshots, whose references count too.
+#[test]
+fn leaks_beside_snapshots() {
+    let mut rng = Rng::from_env("repairs cut beside snapshots", 19);
+    let mut images = 0;
+    while images < 60 {
+        let mut made = snapshot_drive::sound(&mut rng);
+        let mut leaks = 0;
+        for cluster in 0..made.clusters() {
+            let more = made.count(cluster).saturating_add(1 + rng.below(300)).min(made.most());
+            if rng.once_in(3) && more > made.count(cluster) {
+                made.set_count(cluster, more);
+                leaks += 1;
+            }
+        }
+        if leaks == 0 {
+            continue;
+        }
+        images += 1;
+        let units = leaks + made.clearing();
+        for allowance in [u64::MAX, units, units - 1, units / 2, rng.below(units), 1, 0] {
+            flushes(&made.bytes, leaks, units, allowance);
+        }
+    }
+}
+
 /// Repairs an image with these leaks by a list of these units; the states that
 /// were flushed.
 fn flushes(image: &[u8], leaks: u64, units: u64, allowance: u64) -> Vec<Vec<u8>> {
-    let mut scratch = vec![0; image.len() / 1024];
+    let mut scratch = vec![0; image.len() / 256];
     assert_eq!(check(image, &mut scratch), Verdict::Leaks(leaks));
     let drive = Drive { image: image.to_vec(), open: vec![], flushed: vec![] };
     let mut ordered = Ordered::new(drive, Layout::of(image).unwrap(), image.to_vec());

@@ -48,7 +48,7 @@ fn with(test: &str, change: &dyn Fn(&mut Vec<u8>)) -> Copy {
 #[test]
 fn headers() {
     type Case<'a> = (u32, &'a str, &'a dyn Fn(&mut Vec<u8>));
-    let cases: [Case; 33] = [
+    let cases: [Case; 40] = [
         (1, "511 bytes", &|image| image.truncate(511)),
         (2, "a QED image", &|image| image[..4].copy_from_slice(b"QED\0")),
         (3, "version is 4", &|image| image[7] = 4),
@@ -64,7 +64,7 @@ fn headers() {
         (5, "`truncate -s %512 ", &|image| image.push(0)),
         (6, "backing file", &|image| image[15] = 1),
         (6, "LUKS", &|image| image[35] = 2),
-        (6, "3 internal snapshot(s)", &|image| image[63] = 3),
+        (6, "65 internal snapshots, and at most 64 are accepted", &|image| image[63] = 65),
         (6, "refcount_order is 7, and only 0 to 6 are accepted", &|image| image[99] = 7),
         (6, "refcount_order is 16777220, and only", &|image| image[96] = 1),
         (6, "`printf h | dd of=", &|image| image[103] = 112),
@@ -88,6 +88,34 @@ fn headers() {
         (10, "entry 0 is 0x500, which is no cluster", &|image| image[518] = 5),
         (10, "entry 0 is 0x2000, which is no cluster", &|image| image[518] = 32),
         (10, "entry 1 names a block", &|image| image[526] = 4),
+        (21, "the snapshot table stands at 2049, which is no multiple of 512", &|image| {
+            (image[63], image[70], image[71]) = (1, 8, 1)
+        }),
+        (21, "entry 0 of the snapshot table at 8192 runs past the file's end at 8192", &|image| {
+            (image[63], image[70]) = (1, 32)
+        }),
+        (21, "entry 12 of the snapshot table at 7680 runs past the file's end", &|image| {
+            (image[63], image[70]) = (13, 30)
+        }),
+        (21, "snapshot #0 (id \"\", name \"\") stands at 513, which is no multiple", &|image| {
+            (image[63], image[70]) = (1, 8);
+            image[2054..2056].copy_from_slice(&[2, 1]);
+        }),
+        (21, "name \"\") has 65537 entries; at most 65536 are accepted", &|image| {
+            (image[63], image[70]) = (1, 8);
+            image[2056..2060].copy_from_slice(&65_537u32.to_be_bytes());
+        }),
+        (
+            21,
+            "snapshot #1 (id \"\", name \"\") stands at 7680 and has 520 bytes, so it runs",
+            &|image| {
+                (image[63], image[70]) = (2, 8);
+                (image[2094], image[2099]) = (30, 65);
+            },
+        ),
+        (21, "snapshot #0 (id \"\", name \"\") stands at 72057594037927936 and has 0", &|image| {
+            (image[63], image[70], image[2048]) = (1, 8, 1)
+        }),
     ];
     for (number, sentence, change) in cases {
         let copy = with("headers", change);

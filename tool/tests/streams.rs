@@ -33,9 +33,12 @@ fn broken() -> Stdio {
 #[test]
 fn output_that_cannot_be_written() {
     let copy = Copy::with(&bench_image(), "full");
-    for line in LOOKS {
+    let kept = Copy::of("22-v3-512-snapshot.qcow2", "full-kept");
+    let snapshots = ["read 0 64k --snapshot 1", "read 0 64k --snapshot 1 --json"];
+    let lines = LOOKS.iter().map(|line| (&copy, line));
+    for (copy, line) in lines.chain(snapshots.iter().map(|line| (&kept, line))) {
         for (output, fault) in [(full(), "No space left"), (broken(), "Broken pipe")] {
-            let ended = run(&copy, line, Stdio::null(), output);
+            let ended = run(copy, line, Stdio::null(), output);
             let error = String::from_utf8_lossy(&ended.stderr);
             assert_eq!(ended.status.code(), Some(1), "{line}");
             assert!(error.starts_with(&format!("qstore: standard output: {fault}")), "{error}");

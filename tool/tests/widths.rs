@@ -8,6 +8,7 @@ use common::{bench_image, Copy};
 use qcow2_core::{check, Outcome};
 use qstore::damage::Damage;
 use qstore::layout::Layout;
+use qstore::runs::figure;
 
 const ORDERS: std::ops::RangeInclusive<u32> = 0..=6;
 
@@ -150,7 +151,7 @@ fn damage_by_count() {
             put_count(&mut image[block_at..], order, random.below(150), count);
         }
         let layout = Layout::of(&image).unwrap();
-        let mut scratch = vec![0; 150];
+        let mut scratch = vec![0; 300];
         let verdict = check(&image, &mut scratch);
         let damage = Damage::of(&layout, &image, verdict, &scratch);
         let flat = |runs: &[(u64, u64)]| -> Vec<u64> {
@@ -159,8 +160,7 @@ fn damage_by_count() {
         let counts = (0..150).map(|at| get_count(&image[block_at..], order, at as usize));
         let compared: Vec<(u64, u64, u64)> = (0..)
             .zip(counts)
-            .zip(&scratch)
-            .map(|((at, count), &f)| (at, count, f.into()))
+            .map(|(at, count)| (at, count, figure(&scratch, at as usize).into()))
             .collect();
         let wanted = |is: fn(u64, u64) -> bool| -> Vec<u64> {
             compared

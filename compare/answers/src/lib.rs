@@ -74,10 +74,18 @@ pub enum Verdict {
     BadL1(u64),
     /// L1 and L2 index of the first bad entry.
     BadL2(u64, u64),
-    /// Lowest cluster with two references or more.
+    /// The same in a snapshot's L1 table; the snapshot's number comes last.
+    SnapshotBadL1(u64, u64),
+    /// The same below a snapshot's L1 table; the snapshot's number comes last.
+    SnapshotBadL2(u64, u64, u64),
+    /// Lowest cluster that has two roles, or one of them twice.
     Shared(u64),
     /// Lowest cluster whose count is below its references.
     Short(u64),
+    /// L1 index of the first active entry whose bit 63 is wrong.
+    MarkL1(u64),
+    /// L1 and L2 index of the first active entry whose bit 63 is wrong.
+    MarkL2(u64, u64),
     Refused(u32),
 }
 
@@ -88,11 +96,19 @@ impl Verdict {
     }
 }
 
-/// The nine calls of one implementation.
+/// The ten calls of one implementation.
 pub trait Calls {
     fn name(&self) -> &'static str;
     fn translate(&self, image: &[u8], offset: u64) -> Found;
     fn read(&self, image: &[u8], offset: u64, out: &mut [u8]) -> Result<(), u32>;
+    /// The same through the L1 table of a snapshot, which is named by its number.
+    fn read_snapshot(
+        &self,
+        image: &[u8],
+        snapshot: u64,
+        offset: u64,
+        out: &mut [u8],
+    ) -> Result<(), u32>;
     fn lookup<'a>(&self, image: &'a [u8], offset: u64) -> &'a [u8];
     /// Fills rows of three numbers with the runs of the range; how many.
     fn runs(&self, image: &[u8], offset: u64, len: u64, rows: &mut [u64]) -> Result<usize, u32>;
@@ -100,7 +116,7 @@ pub trait Calls {
     fn discard(&self, image: &mut [u8], cluster: u64, allowance: u64) -> Outcome;
     fn repair(&self, image: &mut [u8], scratch: &mut [u8], allowance: u64) -> Outcome;
     fn check(&self, image: &[u8], scratch: &mut [u8]) -> Verdict;
-    fn difference(&self, stored: u64, figure: u8) -> i32;
+    fn difference(&self, stored: u64, figure: u16) -> i32;
 }
 
 /// Implements [`Calls`] for a unit struct by the free functions of the crate
@@ -117,6 +133,15 @@ macro_rules! calls_by_functions {
             }
             fn read(&self, image: &[u8], offset: u64, out: &mut [u8]) -> Result<(), u32> {
                 read(image, offset, out)
+            }
+            fn read_snapshot(
+                &self,
+                image: &[u8],
+                snapshot: u64,
+                offset: u64,
+                out: &mut [u8],
+            ) -> Result<(), u32> {
+                read_snapshot(image, snapshot, offset, out)
             }
             fn lookup<'a>(&self, image: &'a [u8], offset: u64) -> &'a [u8] {
                 lookup(image, offset)
@@ -153,7 +178,7 @@ macro_rules! calls_by_functions {
             fn check(&self, image: &[u8], scratch: &mut [u8]) -> $crate::Verdict {
                 check(image, scratch)
             }
-            fn difference(&self, stored: u64, figure: u8) -> i32 {
+            fn difference(&self, stored: u64, figure: u16) -> i32 {
                 difference(stored, figure)
             }
         }

@@ -67,7 +67,7 @@ impl Bench {
         let sides: [&dyn Calls; 2] = [&Core, &Plain];
         let mut buffers = Buffers {
             image: made.bytes.clone(),
-            scratch: vec![0; made.clusters()],
+            scratch: vec![0; made.scratch()],
             out: vec![0; REQUEST],
         };
         let mut times = [Vec::new(), Vec::new()];

@@ -1,7 +1,7 @@
 //! The check of full images whose counts are too low or that share clusters.
 
 use answers::Verdict;
-use made::full::{self, Layout, Shape};
+use made::full::{self, Shape};
 use made::image::{Kind, Made};
 
 use crate::bench::Bench;

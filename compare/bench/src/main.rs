@@ -1,6 +1,6 @@
 //! Times the proved core and the plain implementation side by side and prints
 //! tables of ratios. An argument chooses one family of cases: check, short,
-//! shared, free, read, map, store, long or widths.
+//! shared, snapshots, free, read, map, store, long or widths.
 #![forbid(unsafe_code)]
 
 mod bench;
@@ -10,15 +10,17 @@ mod free;
 mod long;
 mod map;
 mod read;
+mod snapshots;
 mod store;
 mod widths;
 
 use bench::Bench;
 
-const FAMILIES: [(&str, fn(&Bench)); 9] = [
+const FAMILIES: [(&str, fn(&Bench)); 10] = [
     ("check", check::run),
     ("short", damaged::short),
     ("shared", damaged::shared),
+    ("snapshots", snapshots::run),
     ("free", free::run),
     ("read", read::run),
     ("map", map::run),

@@ -8,11 +8,23 @@ pub const BAD_L1: u32 = 1005;
 pub const BAD_L2: u32 = 1006;
 pub const SHARED: u32 = 1007;
 pub const SHORT: u32 = 1008;
+pub const SNAPSHOT_BAD_L1: u32 = 1009;
+pub const SNAPSHOT_BAD_L2: u32 = 1010;
+pub const MARK_L1: u32 = 1011;
+pub const MARK_L2: u32 = 1012;
 
 extern "C" {
     pub fn qcow2_translate(image: *const u8, n: usize, offset: u64, host: *mut u64) -> u32;
     pub fn qcow2_read(image: *const u8, n: usize, offset: u64, out: *mut u8, out_len: usize)
         -> u32;
+    pub fn qcow2_read_snapshot(
+        image: *const u8,
+        n: usize,
+        snapshot: u64,
+        offset: u64,
+        out: *mut u8,
+        out_len: usize,
+    ) -> u32;
     pub fn qcow2_lookup(image: *const u8, n: usize, offset: u64) -> usize;
     pub fn qcow2_runs(
         image: *const u8,
@@ -54,6 +66,7 @@ extern "C" {
         m: usize,
         first: *mut u64,
         second: *mut u64,
+        third: *mut u64,
     ) -> u32;
-    pub fn qcow2_difference(stored: u64, figure: u8) -> i32;
+    pub fn qcow2_difference(stored: u64, figure: u16) -> i32;
 }

@@ -40,6 +40,19 @@ pub fn read(image: &[u8], offset: u64, out: &mut [u8]) -> Result<(), u32> {
     }
 }
 
+/// The same of the disk that a snapshot has kept, as far as its L1 table reaches.
+pub fn read_snapshot(image: &[u8], snapshot: u64, offset: u64, out: &mut [u8]) -> Result<(), u32> {
+    let (mut pad, len) = (0, out.len());
+    let out = lend_mut(out, &mut pad);
+    // SAFETY: see the head of this file.
+    let code =
+        unsafe { ffi::qcow2_read_snapshot(lend(image), image.len(), snapshot, offset, out, len) };
+    match code {
+        0 => Ok(()),
+        number => Err(number),
+    }
+}
+
 /// The guest bytes from `offset` to the end of its cluster or of the disk, as
 /// a part of the image; empty where translation gives no host offset.
 pub fn lookup(image: &[u8], offset: u64) -> &[u8] {
@@ -102,24 +115,30 @@ pub fn repair(image: &mut [u8], scratch: &mut [u8], allowance: u64) -> Outcome {
 
 /// Counts the references into `scratch` and judges the stored counts by them.
 pub fn check(image: &[u8], scratch: &mut [u8]) -> Verdict {
-    let (mut pad, mut first, mut second, m) = (0, 0, 0, scratch.len());
+    let (mut pad, n, m) = (0, image.len(), scratch.len());
+    let (mut first, mut second, mut third) = (0, 0, 0);
     let scratch = lend_mut(scratch, &mut pad);
     // SAFETY: see the head of this file.
-    let code =
-        unsafe { ffi::qcow2_check(lend(image), image.len(), scratch, m, &mut first, &mut second) };
+    let code = unsafe {
+        ffi::qcow2_check(lend(image), n, scratch, m, &mut first, &mut second, &mut third)
+    };
     match code {
         0 => Verdict::Sound,
         ffi::LEAKS => Verdict::Leaks(first),
         ffi::BAD_L1 => Verdict::BadL1(first),
         ffi::BAD_L2 => Verdict::BadL2(first, second),
+        ffi::SNAPSHOT_BAD_L1 => Verdict::SnapshotBadL1(first, third),
+        ffi::SNAPSHOT_BAD_L2 => Verdict::SnapshotBadL2(first, second, third),
         ffi::SHARED => Verdict::Shared(first),
         ffi::SHORT => Verdict::Short(first),
+        ffi::MARK_L1 => Verdict::MarkL1(first),
+        ffi::MARK_L2 => Verdict::MarkL2(first, second),
         number => Verdict::Refused(number),
     }
 }
 
 /// A cluster's stored count less the scratch's figure, with its sign.
-pub fn difference(stored: u64, figure: u8) -> i32 {
+pub fn difference(stored: u64, figure: u16) -> i32 {
     // SAFETY: takes and gives plain numbers.
     unsafe { ffi::qcow2_difference(stored, figure) }
 }

@@ -5,6 +5,7 @@ use made::breaks::{break_header, ORDER};
 use made::image::{Kind, Made, USED};
 use made::plan::bench_image;
 use made::rng::Rng;
+use made::snapshots::keep_all;
 
 use crate::ffi;
 
@@ -12,6 +13,8 @@ const ALL: u64 = u64::MAX;
 /// What the numbers hold before a call; no call gives it.
 const HELD: u64 = 0xC3C3_C3C3_C3C3_C3C3;
 const CLUSTERS: usize = 16;
+/// The scratch that a check needs.
+const SCRATCH: usize = 2 * CLUSTERS;
 /// L1 entry 1 has the table of the guest clusters from 64 on.
 const GUEST: u64 = 64;
 const OFFSET: u64 = GUEST * 512;
@@ -21,6 +24,7 @@ const OFFSET: u64 = GUEST * 512;
 enum Call {
     Translate(u64),
     Read(u64),
+    ReadSnapshot(u64, u64),
     Runs { offset: u64, len: u64, room: usize },
     Write { offset: u64, allowance: u64 },
     Discard { cluster: u64, allowance: u64 },
@@ -34,12 +38,12 @@ struct Lent {
     image: Vec<u8>,
     bytes: [u8; 3],
     rows: [u64; 9],
-    scratch: [u8; CLUSTERS + 1],
+    scratch: [u8; SCRATCH + 1],
 }
 
 impl Lent {
     fn of(made: &Made) -> Lent {
-        let scratch = [0x5A; CLUSTERS + 1];
+        let scratch = [0x5A; SCRATCH + 1];
         Lent { image: made.bytes.clone(), bytes: *b"abc", rows: [HELD; 9], scratch }
     }
 
@@ -48,12 +52,15 @@ impl Lent {
         let (image, n) = (self.image.as_mut_ptr(), self.image.len());
         let (bytes, len) = (self.bytes.as_mut_ptr(), self.bytes.len());
         let (rows, figures) = (self.rows.as_mut_ptr(), self.scratch.as_mut_ptr());
-        let [a, b] = &mut [HELD; 2];
+        let [a, b, c] = &mut [HELD; 3];
         // SAFETY: see the head of lib.rs; no call is lent more rows or scratch than there are.
         let code = unsafe {
             match call {
                 Call::Translate(offset) => ffi::qcow2_translate(image, n, offset, a),
                 Call::Read(offset) => ffi::qcow2_read(image, n, offset, bytes, len),
+                Call::ReadSnapshot(snapshot, offset) => {
+                    ffi::qcow2_read_snapshot(image, n, snapshot, offset, bytes, len)
+                }
                 Call::Runs { offset, len, room } => {
                     assert!(room <= self.rows.len());
                     ffi::qcow2_runs(image, n, offset, len, rows, room, a)
@@ -70,13 +77,13 @@ impl Lent {
                 }
                 Call::Check { scratch } => {
                     assert!(scratch <= self.scratch.len());
-                    ffi::qcow2_check(image, n, figures, scratch, a, b)
+                    ffi::qcow2_check(image, n, figures, scratch, a, b, c)
                 }
             }
         };
         let numbers = match call {
-            Call::Read(_) => vec![],
-            Call::Check { .. } => vec![*a, *b],
+            Call::Read(_) | Call::ReadSnapshot(..) => vec![],
+            Call::Check { .. } => vec![*a, *b, *c],
             _ => vec![*a],
         };
         (code, numbers)
@@ -127,7 +134,7 @@ const BAD: u64 = 2;
 const AFTER_ZEROS: u64 = OFFSET + 1024;
 
 fn check(made: &Made) -> (u32, Vec<u64>) {
-    answer(made, Call::Check { scratch: CLUSTERS })
+    answer(made, Call::Check { scratch: SCRATCH })
 }
 
 #[test]
@@ -161,7 +168,7 @@ fn units() {
     assert_eq!(discard(GUEST, ALL), (0, vec![2]));
     assert_eq!(discard(GUEST, 1), (ffi::STOPPED, vec![1]));
     assert_eq!(discard(0, ALL), (0, vec![0]));
-    let repair = |made, allowance| answer(made, Call::Repair { scratch: CLUSTERS, allowance });
+    let repair = |made, allowance| answer(made, Call::Repair { scratch: SCRATCH, allowance });
     let leaking = with_count(9, 3);
     assert_eq!(repair(&leaking, ALL), (0, vec![1]));
     assert_eq!(repair(&leaking, 0), (ffi::STOPPED, vec![0]));
@@ -169,15 +176,65 @@ fn units() {
 }
 
 #[test]
-fn first_and_second() {
-    assert_eq!(check(&sound()), (0, vec![0, 0]));
-    assert_eq!(check(&with_count(9, 3)), (ffi::LEAKS, vec![1, 0]));
-    assert_eq!(check(&with_entry(BAD)), (ffi::BAD_L2, vec![1, 2]));
-    assert_eq!(check(&with_entry(USED | 5 * 512)), (ffi::SHARED, vec![5, 0]));
-    assert_eq!(check(&with_count(5, 0)), (ffi::SHORT, vec![5, 0]));
+fn first_second_and_third() {
+    assert_eq!(check(&sound()), (0, vec![0, 0, 0]));
+    assert_eq!(check(&with_count(9, 3)), (ffi::LEAKS, vec![1, 0, 0]));
+    assert_eq!(check(&with_entry(BAD)), (ffi::BAD_L2, vec![1, 2, 0]));
+    assert_eq!(check(&with_entry(USED | 5 * 512)), (ffi::SHARED, vec![5, 0, 0]));
+    assert_eq!(check(&with_count(5, 0)), (ffi::SHORT, vec![5, 0, 0]));
     let mut made = sound();
     made.put64(made.l1_entry(1), 1);
-    assert_eq!(check(&made), (ffi::BAD_L1, vec![1, 0]));
+    assert_eq!(check(&made), (ffi::BAD_L1, vec![1, 0, 0]));
+    made.put64(made.l1_entry(1), 4 * 512);
+    assert_eq!(check(&made), (ffi::MARK_L1, vec![1, 0, 0]));
+    let mut made = sound();
+    made.put64(4 * 512, 5 * 512);
+    assert_eq!(check(&made), (ffi::MARK_L2, vec![1, 0, 0]));
+    made.put64(4 * 512, 0);
+    made.put64(4 * 512 + 8 * 7, 5 * 512);
+    assert_eq!(check(&made), (ffi::MARK_L2, vec![1, 7, 0]));
+}
+
+/// The sound image with two snapshots of it; the table in cluster 4 and the data
+/// in cluster 5 are theirs too. The snapshots' L1 tables are in clusters 7 and 8.
+fn kept() -> Made {
+    let mut made = sound();
+    keep_all(&mut made, 2);
+    assert_eq!((made.snapshots[0].l1_at, made.snapshots[1].l1_at), (7 * 512, 8 * 512));
+    made
+}
+
+#[test]
+fn third_beside_snapshots() {
+    assert_eq!(check(&kept()), (0, vec![0, 0, 0]));
+    let mut made = kept();
+    made.put64(8 * 512, 1);
+    assert_eq!(check(&made), (ffi::SNAPSHOT_BAD_L1, vec![0, 0, 1]));
+    made.put64(7 * 512 + 8, 1);
+    assert_eq!(check(&made), (ffi::SNAPSHOT_BAD_L1, vec![1, 0, 0]));
+    // A table of its own for the second snapshot, with a bad entry.
+    let mut made = kept();
+    made.put64(8 * 512 + 8, 9 * 512);
+    made.put64(9 * 512 + 8 * 3, BAD);
+    assert_eq!(check(&made), (ffi::SNAPSHOT_BAD_L2, vec![1, 3, 1]));
+}
+
+#[test]
+fn beside_snapshots() {
+    let made = kept();
+    let (mut lent, mut wanted) = (Lent::of(&made), Lent::of(&made));
+    assert_eq!(lent.call(Call::ReadSnapshot(1, OFFSET + 2)), (0, vec![]));
+    wanted.bytes.copy_from_slice(&made.bytes[5 * 512 + 2..][..3]);
+    assert!(lent == wanted);
+    refused(&made, Call::ReadSnapshot(2, 0), 11);
+    refused(&made, Call::ReadSnapshot(ALL, 0), 11);
+    refused(&made, Call::ReadSnapshot(0, 65_534), 11);
+    refused(&made, Call::Write { offset: OFFSET, allowance: ALL }, 22);
+    refused(&made, Call::Discard { cluster: GUEST, allowance: ALL }, 22);
+    let mut lent = Lent::of(&made);
+    assert_eq!(lent.call(Call::Check { scratch: SCRATCH }), (0, vec![0, 0, 0]));
+    assert_eq!(lent.scratch[..14], [0, 1, 0, 1, 0, 1, 0, 1, 0, 3, 0, 3, 0, 1]);
+    assert_eq!(lent.scratch[SCRATCH], 0x5A);
 }
 
 #[test]
@@ -189,8 +246,8 @@ fn refused_requests() {
     refused(&made, Call::Runs { offset: end, len: 1, room: 9 }, 11);
     refused(&made, Call::Write { offset: 510, allowance: ALL }, 11);
     refused(&made, Call::Discard { cluster: end / 512, allowance: ALL }, 11);
-    refused(&made, Call::Repair { scratch: CLUSTERS - 1, allowance: ALL }, 15);
-    refused(&made, Call::Check { scratch: CLUSTERS - 1 }, 15);
+    refused(&made, Call::Repair { scratch: SCRATCH - 1, allowance: ALL }, 15);
+    refused(&made, Call::Check { scratch: SCRATCH - 1 }, 15);
     refused(&with_count(5, 0), Call::Discard { cluster: GUEST, allowance: ALL }, 16);
     let mut full = sound();
     (6..CLUSTERS).for_each(|cluster| full.set_count(cluster, 1));
@@ -215,11 +272,12 @@ fn repair_of_damage() {
     let shared = USED | 5 * 512;
     for (made, figure) in [(with_entry(BAD), 1), (with_entry(shared), 2), (with_count(5, 0), 1)] {
         let (mut lent, mut wanted) = (Lent::of(&made), Lent::of(&made));
-        let repair = Call::Repair { scratch: CLUSTERS + 1, allowance: ALL };
+        let repair = Call::Repair { scratch: SCRATCH + 1, allowance: ALL };
         assert_eq!(lent.call(repair), (17, vec![0]));
-        wanted.scratch[..5].fill(1);
-        wanted.scratch[5] = figure;
-        wanted.scratch[6..CLUSTERS].fill(0);
+        wanted.scratch[..SCRATCH].fill(0);
+        for (cluster, figure) in [1, 1, 1, 1, 1, figure].into_iter().enumerate() {
+            wanted.scratch[2 * cluster + 1] = figure;
+        }
         assert!(lent == wanted, "not the figures, or other bytes");
     }
 }
@@ -242,11 +300,12 @@ fn refused_by_all(made: &Made, number: u32) {
     for call in [
         Call::Translate(OFFSET),
         Call::Read(OFFSET),
+        Call::ReadSnapshot(0, OFFSET),
         Call::Runs { offset: OFFSET, len: 512, room: 9 },
         Call::Write { offset: OFFSET, allowance: ALL },
         Call::Discard { cluster: GUEST, allowance: ALL },
-        Call::Repair { scratch: CLUSTERS + 1, allowance: ALL },
-        Call::Check { scratch: CLUSTERS + 1 },
+        Call::Repair { scratch: SCRATCH + 1, allowance: ALL },
+        Call::Check { scratch: SCRATCH + 1 },
     ] {
         refused(made, call, number);
     }

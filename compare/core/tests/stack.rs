@@ -12,7 +12,12 @@ const STACK: usize = 64 << 10;
 const ALL: u64 = u64::MAX;
 
 fn on_little_stack(work: impl FnOnce() + Send + 'static) {
-    thread::Builder::new().stack_size(STACK).spawn(work).expect("a thread").join().expect("its end");
+    thread::Builder::new()
+        .stack_size(STACK)
+        .spawn(work)
+        .expect("a thread")
+        .join()
+        .expect("its end");
 }
 
 #[test]
@@ -22,7 +27,7 @@ fn each_call_needs_little_stack() {
         let cluster = made.cluster();
         on_little_stack(move || {
             let mut image = made.bytes;
-            let mut scratch = vec![0; image.len() / cluster];
+            let mut scratch = vec![0; 2 * image.len() / cluster];
             let mut out = vec![0; 5 << 20];
             let data = vec![7; cluster];
             let written = qcow2_core::write(&mut image, guest * cluster as u64, &data, ALL);
@@ -30,7 +35,10 @@ fn each_call_needs_little_stack() {
             let again = qcow2_core::write(&mut image, guest * cluster as u64, &data, ALL);
             assert_eq!(again, Outcome::Finished(cluster as u64));
             assert_eq!(qcow2_core::read(&image, 0, &mut out), Ok(()));
-            assert_eq!(qcow2_core::read(&image, guest * cluster as u64, &mut out[..cluster]), Ok(()));
+            assert_eq!(
+                qcow2_core::read(&image, guest * cluster as u64, &mut out[..cluster]),
+                Ok(())
+            );
             assert!(out[..cluster] == data);
             assert_eq!(qcow2_core::discard(&mut image, guest, ALL), Outcome::Finished(2));
             qcow2_core::repair(&mut image, &mut scratch, ALL);

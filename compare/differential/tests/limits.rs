@@ -43,11 +43,25 @@ fn edges() {
     let mut pair = Pair::new(&Core, &Plain);
     made::edges::each(|image, _| {
         pair.load(image);
-        pair.run(&Request::Check { scratch: image.len() / 512 });
+        pair.run(&Request::Check { scratch: image.len() / 256 });
         pair.run(&Request::Translate { offset: 0 });
         pair.run(&Request::Translate { offset: (1 << 40) - 1 });
         pair.run(&Request::Translate { offset: 1 << 40 });
         pair.run(&write(0, 1, ALL));
+    });
+}
+
+/// Snapshot tables, and what they let be read.
+#[test]
+fn snapshot_edges() {
+    let mut pair = Pair::new(&Core, &Plain);
+    made::snapshot_edges::each(|image, _| {
+        pair.load(image);
+        pair.run(&Request::Check { scratch: image.len() / 256 });
+        for (snapshot, offset) in [(0, 0), (0, 1 << 15), (0, 1 << 40), (63, 0), (64, 0)] {
+            pair.run(&Request::ReadSnapshot { snapshot, offset, len: 1 });
+        }
+        pair.run(&write(0, 1, 0));
     });
 }
 
@@ -86,17 +100,17 @@ fn full_images() {
     for (cluster_bits, order) in [(9, 4), (9, 0), (13, 5), (16, 1), (21, 3)] {
         let shape = Shape { order, ..Shape::of(cluster_bits) };
         let made = full::full_of(shape, Kind::Data, Layout::Rising);
-        let (cluster, clusters) = (made.cluster(), made.clusters());
+        let (cluster, scratch) = (made.cluster(), made.scratch());
         pair.load(&made.bytes);
-        pair.run(&Request::Check { scratch: clusters });
-        pair.run(&Request::Check { scratch: clusters - 1 });
+        pair.run(&Request::Check { scratch });
+        pair.run(&Request::Check { scratch: scratch - 1 });
         pair.run(&Request::Read { offset: 0, len: made.size as usize });
         pair.run(&write(made.size - 1, 1, ALL));
         pair.run(&Request::Discard { cluster: made.guest_clusters() - 1, allowance: 1 });
         pair.run(&write(made.size - 1, 1, ALL));
-        pair.run(&Request::Repair { scratch: clusters, allowance: ALL });
+        pair.run(&Request::Repair { scratch, allowance: ALL });
         pair.run(&write(made.size - cluster as u64, cluster, ALL));
-        pair.run(&Request::Check { scratch: clusters });
+        pair.run(&Request::Check { scratch });
     }
 }
 
@@ -112,7 +126,7 @@ fn last_cluster_free() {
             pair.run(&write(offset, 3, allowance));
         }
         pair.run(&Request::Lookup { offset });
-        pair.run(&Request::Check { scratch: made.clusters() });
+        pair.run(&Request::Check { scratch: made.scratch() });
     }
 }
 
@@ -126,9 +140,9 @@ fn both<A: PartialEq>(images: &mut [Made; 2], call: impl Fn(&dyn Calls, &mut [u8
 
 /// The verdict, where `offset` lies and what is read around it.
 fn look(images: &mut [Made; 2], offset: u64) -> (Verdict, Found) {
-    let clusters = images[0].clusters();
+    let scratch = images[0].scratch();
     let found = both(images, |side, image| {
-        let (mut scratch, mut out) = (vec![7; clusters], [7; 6]);
+        let (mut scratch, mut out) = (vec![7; scratch], [7; 6]);
         let verdict = side.check(image, &mut scratch);
         let read = side.read(image, offset - 4, &mut out);
         (
@@ -154,7 +168,7 @@ const LONGEST: [(u32, u32); 4] = [(9, 4), (9, 0), (14, 1), (21, 0)];
 fn longest_images() {
     for (cluster_bits, order) in LONGEST {
         let images = &mut [(); 2].map(|()| longest::last_two_free(cluster_bits, order));
-        let (clusters, size) = (images[0].clusters() as u64, images[0].size);
+        let (scratch, size) = (images[0].scratch(), images[0].size);
         let (offset, guest) = (size - 2, (size - 1) >> cluster_bits);
         let write = |side: &dyn Calls, image: &mut [u8]| side.write(image, offset, b"ab", ALL);
         let (verdict, found) = look(images, offset);
@@ -167,8 +181,7 @@ fn longest_images() {
         assert_eq!(elsewhere, Outcome::Refused(14));
         let cut = both(images, |side, image| side.discard(image, guest, 1));
         assert_eq!(cut, Outcome::Stopped(1));
-        let repaired =
-            both(images, |side, image| side.repair(image, &mut vec![7; clusters as usize], ALL));
+        let repaired = both(images, |side, image| side.repair(image, &mut vec![7; scratch], ALL));
         assert!(matches!(repaired, Outcome::Finished(500..)), "{repaired:?}");
         assert_eq!(look(images, offset), (Verdict::Sound, Found::Absent));
         assert!(images[0].bytes == images[1].bytes);

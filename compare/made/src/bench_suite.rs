@@ -43,7 +43,7 @@ fn entry(image: &[u8], at: usize) -> u64 {
 }
 
 fn verdict(side: &dyn Calls, image: &[u8]) -> Verdict {
-    side.check(image, &mut [0; 16])
+    side.check(image, &mut [0; 32])
 }
 
 fn free(image: &[u8], order: u32) -> usize {
@@ -80,7 +80,7 @@ fn first_write_cut(side: &dyn Calls, order: u32) {
         assert_eq!(verdict(side, &image), Verdict::Leaks(2));
     }
     let (mut image, _) = written(side, order, 1027);
-    assert_eq!(side.repair(&mut image, &mut [0; 16], ALL), Outcome::Finished(2));
+    assert_eq!(side.repair(&mut image, &mut [0; 32], ALL), Outcome::Finished(2));
     assert_eq!(free(&image, order), 12);
     assert_eq!(verdict(side, &image), Verdict::Sound);
 }
@@ -128,7 +128,7 @@ fn headers(side: &dyn Calls, order: u32) {
     let refused = |change: &dyn Fn(&mut Vec<u8>)| {
         let mut image = image(order);
         change(&mut image);
-        match side.check(&image, &mut [0; 17]) {
+        match side.check(&image, &mut [0; 34]) {
             Verdict::Refused(number) => number,
             _ => 0,
         }

@@ -3,9 +3,10 @@
 use crate::image::Made;
 use crate::plan::{Plan, SECTOR};
 use crate::rng::Rng;
+use crate::snapshots::{FIXED, MAX_SNAPSHOTS};
 
 /// The header's numbers in the order in which they are tried.
-pub const ORDER: [u32; 11] = [1, 2, 3, 4, 5, 6, 7, 8, 18, 9, 10];
+pub const ORDER: [u32; 12] = [1, 2, 3, 4, 5, 6, 7, 8, 18, 9, 10, 21];
 
 /// Breaks the image so that `number` applies; false where this image has no
 /// way to do it. Numbers tried before it are left alone.
@@ -34,6 +35,7 @@ pub fn break_header(made: &mut Made, number: u32, rng: &mut Rng) -> bool {
         18 => return break_18(made, rng),
         9 => return break_9(made, rng),
         10 => return break_10(made, rng),
+        21 => break_21(made, rng),
         _ => unreachable!("a number of the header"),
     }
     true
@@ -43,7 +45,10 @@ fn break_6(made: &mut Made, rng: &mut Rng) {
     match rng.below(if made.version == 3 { 5 } else { 3 }) {
         0 => made.put64(8, 1 << rng.below(64)),
         1 => made.put32(32, 1 << rng.below(32)),
-        2 => made.put32(60, 1 << rng.below(32)),
+        2 => {
+            let count = rng.pick(&[65, 66, 1 << 8, 1 << 16, 1 << 31, u32::MAX]);
+            made.put32(60, count);
+        }
         3 => {
             let order = rng.pick(&[7, 8, 16, 32, 0x0400_0000, 1 << 31, u32::MAX]);
             made.put32(96, order);
@@ -127,4 +132,31 @@ fn break_10(made: &mut Made, rng: &mut Rng) -> bool {
     let value = rng.pick(&[0, place ^ odd, place | high, n, n + cluster, cluster.wrapping_neg()]);
     made.put64(made.table_at + 8 * index, value);
     true
+}
+
+/// The snapshot table misplaced or past the end, or one of its entries broken.
+fn break_21(made: &mut Made, rng: &mut Rng) {
+    let (n, cluster) = (made.bytes.len() as u64, made.cluster() as u64);
+    let odd = 1 << rng.below(u64::from(made.cluster_bits));
+    let past = rng.pick(&[n, n + cluster, 1 << 32, 1 << 63, cluster.wrapping_neg()]);
+    if made.snapshots.is_empty() || rng.once_in(3) {
+        let count = made.snapshots.len().max(1 + rng.index(MAX_SNAPSHOTS));
+        made.put32(60, count as u32);
+        made.put64(64, rng.pick(&[made.snapshots_at as u64 ^ odd, past]));
+        return;
+    }
+    let k = rng.index(made.snapshots.len());
+    let (at, l1_at, l1_size) =
+        (made.snapshots[k].entry, made.snapshots[k].l1_at, made.snapshots[k].l1_size);
+    match rng.below(4) {
+        0 => {
+            // Just past the end, or far past it.
+            let least = n as u32 - at as u32 - FIXED as u32 + 1;
+            made.put32(at + 36, rng.pick(&[least, 1 << 31, u32::MAX]));
+        }
+        1 => made.put32(at + 8, rng.pick(&[65_537, 1 << 17, 1 << 31, u32::MAX])),
+        2 => made.put64(at, l1_at as u64 ^ odd),
+        _ if l1_size == 0 => made.put64(at, n + cluster),
+        _ => made.put64(at, past),
+    }
 }

@@ -63,7 +63,7 @@ fn requests() -> Vec<Request> {
     let mut requests = vec![write(65_535, 1), write(65_530, 7), write(510, 3)];
     requests.extend([0, 7, 519, 1031, 1543].map(|offset| write(offset, 5)));
     requests.extend([0, 65_536, 65_537].map(|offset| write(offset, 0)));
-    requests.extend([write(0, 512), write(2048, 1), write(2560, 1), repair(16), repair(15)]);
+    requests.extend([write(0, 512), write(2048, 1), write(2560, 1), repair(32), repair(31)]);
     requests.extend([0, 1, 2, 3, 4, 5, 6, 127, 128].map(discard));
     requests
 }

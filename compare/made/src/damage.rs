@@ -4,17 +4,22 @@
 use crate::image::{Made, AUTOCLEAR, USED};
 use crate::plan::{per_block, Plan};
 use crate::rng::Rng;
+use crate::snapshots::Snapshot;
 
 pub type Damage = fn(&mut Made, &mut Rng);
 
 /// Every kind; the first two only make leaks or use up room.
-pub const ALL: [Damage; 16] = [
+pub const ALL: [Damage; 20] = [
     leak,
     fill_up,
     short,
+    one_less,
+    wrong_mark,
+    move_structure,
     free_structure,
     bad_l1,
     bad_l2,
+    compress,
     random_entry,
     alias_l1,
     alias_l2,
@@ -53,6 +58,35 @@ pub fn short(made: &mut Made, rng: &mut Rng) {
     made.set_count(cluster, 0);
 }
 
+/// Lowers the count of one cluster.
+pub fn one_less(made: &mut Made, rng: &mut Rng) {
+    let cluster = any_cluster(made, rng);
+    made.set_count(cluster, made.count(cluster).saturating_sub(1));
+}
+
+/// Turns bit 63 of an entry over that was set, or of an L1 entry.
+pub fn wrong_mark(made: &mut Made, rng: &mut Rng) {
+    let at = match made.entries.is_empty() || rng.once_in(3) {
+        true => any_l1(made, rng),
+        false => Some(rng.pick(&made.entries)),
+    };
+    if let Some(at) = at {
+        made.put64(at, made.get64(at) ^ USED);
+    }
+}
+
+/// A snapshot's L1 table on top of anything that has room for it.
+pub fn move_structure(made: &mut Made, rng: &mut Rng) {
+    if made.snapshots.is_empty() {
+        return;
+    }
+    let k = rng.index(made.snapshots.len());
+    let place = any_cluster(made, rng) << made.cluster_bits;
+    if place + 8 * made.snapshots[k].l1_size <= made.bytes.len() {
+        made.put64(made.snapshots[k].entry, place as u64);
+    }
+}
+
 /// Sets the counts of header, blocks, refcount table or L1 table to 0.
 pub fn free_structure(made: &mut Made, rng: &mut Rng) {
     for place in structures(made) {
@@ -73,6 +107,15 @@ pub fn bad_l2(made: &mut Made, rng: &mut Rng) {
     if let Some(at) = any_l2(made, rng) {
         let entry = bad_entry(made, rng, true);
         made.put64(at, entry);
+    }
+}
+
+/// L2 entries of compressed clusters.
+pub fn compress(made: &mut Made, rng: &mut Rng) {
+    for _ in 0..1 + rng.below(4) {
+        if let Some(at) = any_l2(made, rng) {
+            made.put64(at, made.get64(at) | 1 << 62);
+        }
     }
 }
 
@@ -190,30 +233,38 @@ pub fn other_order(made: &mut Made, rng: &mut Rng) {
 pub fn bad_entry(made: &Made, rng: &mut Rng, l2: bool) -> u64 {
     let n = made.bytes.len() as u64;
     let place = made.cluster() as u64 * (1 + rng.below((made.clusters() as u64 - 1).max(1)));
-    let good = USED | if place < n { place } else { 0 };
+    let mark = rng.pick(&[0, USED]);
+    let good = if place < n { mark | place } else { USED };
     let unaligned = 1 << (9 + rng.below(u64::from(made.cluster_bits - 9).max(1)));
     let low = rng.below(8);
-    match rng.below(if l2 { 9 } else { 6 }) {
+    match rng.below(if l2 { 8 } else { 5 }) {
         0 => good | 1 << (56 + rng.below(if l2 { 6 } else { 7 })),
         1 => good | if l2 { 2 << low } else { 1 << rng.pick(&[low, 8]) },
-        2 => good & !USED | if place < n { 0 } else { USED },
-        3 => USED,
-        4 if made.cluster_bits > 9 => good | unaligned,
-        4 => USED | n,
-        5 => USED | rng.pick(&[n, n + made.cluster() as u64, 1 << 32, 1 << 55]),
-        6 => 1 << 62 | rng.pick(&[0, good, 0x1FE, USED, u64::MAX]),
-        7 if made.version == 2 => good | 1,
-        7 => USED | 1,
+        2 => USED,
+        3 if made.cluster_bits > 9 => good | unaligned,
+        3 => mark | n,
+        4 => mark | rng.pick(&[n, n + made.cluster() as u64, 1 << 32, 1 << 55]),
+        5 => 1 << 62 | rng.pick(&[0, good, 0x1FE, USED, u64::MAX]),
+        6 if made.version == 2 => good | 1,
+        6 => USED | 1,
         _ if made.version == 2 => 1,
         _ => 2 << low,
     }
 }
 
-/// Places of header, refcount table, L1 table, blocks and L2 tables.
+/// Places of header, refcount table, L1 tables, blocks, L2 tables and snapshot
+/// table.
 fn structures(made: &Made) -> Vec<usize> {
     let mut places = vec![0, made.table_at, made.l1_at];
     places.extend(&made.blocks);
     places.extend(made.tables.iter().map(|&(_, place)| place));
+    if !made.snapshots.is_empty() {
+        places.push(made.snapshots_at);
+    }
+    for snapshot in &made.snapshots {
+        places.push(snapshot.l1_at);
+        places.extend(snapshot.tables.iter().map(|&(_, place)| place));
+    }
     places
 }
 
@@ -228,6 +279,10 @@ fn any_cluster(made: &Made, rng: &mut Rng) -> usize {
 
 /// The place of an L1 entry, most often one with a table.
 fn any_l1(made: &Made, rng: &mut Rng) -> Option<usize> {
+    if !made.snapshots.is_empty() && rng.once_in(3) {
+        let snapshot = &made.snapshots[rng.index(made.snapshots.len())];
+        return snapshot_l1(snapshot, rng);
+    }
     if made.l1_size == 0 {
         return None;
     }
@@ -237,6 +292,19 @@ fn any_l1(made: &Made, rng: &mut Rng) -> Option<usize> {
         false => rng.pick(&made.tables).0,
     };
     Some(made.l1_entry(index))
+}
+
+/// The same in a snapshot's L1 table.
+fn snapshot_l1(snapshot: &Snapshot, rng: &mut Rng) -> Option<usize> {
+    if snapshot.l1_size == 0 {
+        return None;
+    }
+    let random = rng.index(snapshot.l1_size);
+    let index = match snapshot.tables.is_empty() || rng.once_in(2) {
+        true => rng.pick(&[0, snapshot.l1_size - 1, random]),
+        false => rng.pick(&snapshot.tables).0,
+    };
+    Some(snapshot.l1_entry(index))
 }
 
 /// The place of an L2 entry, most often one that is set.

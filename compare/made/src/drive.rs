@@ -10,14 +10,26 @@ use crate::pair::Pair;
 use crate::plan::Plan;
 use crate::requests::{Request, Requests};
 use crate::rng::Rng;
+use crate::snapshots::{self, MAX_SNAPSHOTS};
 
-/// A sound image with tables and entries.
+/// A sound image with tables and entries, at times with snapshots.
 pub fn sound(rng: &mut Rng) -> Made {
     let plan = Plan::random(rng);
     sound_of(plan, rng)
 }
 
 fn sound_of(plan: Plan, rng: &mut Rng) -> Made {
+    let mut made = without_snapshots(plan, rng);
+    if rng.once_in(3) {
+        let few = 1 + rng.index(3);
+        let many = 1 + rng.index(MAX_SNAPSHOTS);
+        let count = rng.pick(&[few, few, few, few, few, few, few, many, MAX_SNAPSHOTS]);
+        snapshots::add(&mut made, count, rng);
+    }
+    made
+}
+
+pub fn without_snapshots(plan: Plan, rng: &mut Rng) -> Made {
     let mut made = plan.build(rng);
     made.populate(rng);
     made
@@ -186,31 +198,37 @@ pub fn series_on(side: &dyn Calls, made: &Made, rng: &mut Rng, ended: &mut [u64;
     }
 }
 
-/// Cuts requests at many units; after each cut the request once more, a repair
-/// or a discard. Returns the calls made.
-pub fn series_cuts(side: &dyn Calls, rng: &mut Rng, calls: u64) -> u64 {
+/// Cuts requests for random images at many units, until `calls` calls were made.
+pub fn series_cuts(side: &dyn Calls, rng: &mut Rng, calls: u64) {
     let mut made_calls = 0;
     while made_calls < calls {
         let made = usable(rng);
-        let start = Series::start(side, &made.bytes).expect("a usable image");
-        let mut requests = Requests::new(&made);
-        for _ in 0..3 {
-            let request = requests.storing(rng);
+        made_calls += series_cuts_on(side, &made, rng);
+    }
+}
+
+/// Cuts requests at many units; after each cut the request once more, a repair
+/// or a discard. Returns the calls made.
+pub fn series_cuts_on(side: &dyn Calls, made: &Made, rng: &mut Rng) -> u64 {
+    let mut made_calls = 0;
+    let start = Series::start(side, &made.bytes).expect("a usable image");
+    let mut requests = Requests::new(made);
+    for _ in 0..3 {
+        let request = requests.storing(rng);
+        let (mut series, mut image) = (start.clone(), made.bytes.clone());
+        let whole = step(&mut series, &mut image, &with_allowance(&request, u64::MAX));
+        made_calls += 1;
+        let Outcome::Finished(units) = whole else {
+            continue;
+        };
+        for cut in cuts(units, made.cluster() as u64, rng) {
             let (mut series, mut image) = (start.clone(), made.bytes.clone());
-            let whole = step(&mut series, &mut image, &with_allowance(&request, u64::MAX));
-            made_calls += 1;
-            let Outcome::Finished(units) = whole else {
-                continue;
-            };
-            for cut in cuts(units, made.cluster() as u64, rng) {
-                let (mut series, mut image) = (start.clone(), made.bytes.clone());
-                step(&mut series, &mut image, &with_allowance(&request, cut));
-                let repair = Request::Repair { scratch: made.clusters(), allowance: u64::MAX };
-                let discard = requests.storing(rng);
-                let next = [&request, &repair, &discard][rng.index(3)].clone();
-                step(&mut series, &mut image, &with_allowance(&next, u64::MAX));
-                made_calls += 2;
-            }
+            step(&mut series, &mut image, &with_allowance(&request, cut));
+            let repair = Request::Repair { scratch: made.scratch(), allowance: u64::MAX };
+            let discard = requests.storing(rng);
+            let next = [&request, &repair, &discard][rng.index(3)].clone();
+            step(&mut series, &mut image, &with_allowance(&next, u64::MAX));
+            made_calls += 2;
         }
     }
     made_calls

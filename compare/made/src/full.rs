@@ -4,6 +4,7 @@
 use crate::image::{Kind, Made};
 use crate::plan::{per_block, Plan, ORDER_16};
 use crate::rng::Rng;
+use crate::snapshots;
 
 /// The usual length. The greatest one takes too much memory and time for most
 /// tests.
@@ -103,6 +104,24 @@ pub fn full_of(shape: Shape, kind: Kind, layout: Layout) -> Made {
 /// The same of the usual length, with data in order.
 pub fn full(cluster_bits: u32) -> Made {
     full_of(Shape::of(cluster_bits), Kind::Data, Layout::Rising)
+}
+
+/// A full image of the usual length whose snapshots share most clusters with the
+/// active disk and with each other.
+pub fn with_snapshots(cluster_bits: u32, count: usize, layout: Layout) -> Made {
+    let shape = Shape::of(cluster_bits);
+    let mut made = empty_of(shape, shape.clusters(), layout);
+    let room = snapshots::reserve(&mut made, count);
+    // Of each 32 tables one, and half of its data; with one table that is many.
+    let (step, own) = match cluster_bits {
+        16 => (1, shape.clusters() / 2 + 1),
+        _ => (32, shape.clusters() / 50),
+    };
+    let done = fill(&mut made, own, usize::MAX);
+    shrink(&mut made, done);
+    snapshots::keep(&mut made, room);
+    snapshots::copy_some(&mut made, step);
+    made
 }
 
 /// Only the last `keep` clusters are free, and the guest cluster that is

@@ -6,6 +6,7 @@ use std::ops::Range;
 
 use crate::plan::{per_block, LONG_BITS};
 use crate::rng::Rng;
+use crate::snapshots::Snapshot;
 
 pub const USED: u64 = 1 << 63;
 /// The place of autoclear_features.
@@ -31,6 +32,9 @@ pub struct Made {
     pub tables: Vec<(usize, usize)>,
     /// Places of L2 entries that are not 0.
     pub entries: Vec<usize>,
+    /// The place of the snapshot table, if there are snapshots.
+    pub snapshots_at: usize,
+    pub snapshots: Vec<Snapshot>,
 }
 
 /// What an L2 entry is made to say.
@@ -51,6 +55,11 @@ impl Made {
         self.bytes.len() >> self.cluster_bits
     }
 
+    /// Bytes of the scratch that a check needs.
+    pub fn scratch(&self) -> usize {
+        2 * self.clusters()
+    }
+
     /// Entries of an L2 table.
     pub fn per_table(&self) -> usize {
         self.cluster() / 8
@@ -59,6 +68,10 @@ impl Made {
     /// Guest clusters that begin below the disk's end.
     pub fn guest_clusters(&self) -> u64 {
         self.size.div_ceil(self.cluster() as u64)
+    }
+
+    pub fn put16(&mut self, at: usize, value: u16) {
+        self.bytes[at..at + 2].copy_from_slice(&value.to_be_bytes());
     }
 
     pub fn put32(&mut self, at: usize, value: u32) {
@@ -126,10 +139,25 @@ impl Made {
     }
 
     /// Takes a spare cluster, with count 1; its place.
-    fn take(&mut self) -> Option<usize> {
+    pub(crate) fn take(&mut self) -> Option<usize> {
         let cluster = self.spare.pop()?;
         self.set_count(cluster, 1);
         Some(cluster << self.cluster_bits)
+    }
+
+    /// Takes the lowest spare clusters that stand in a row, with count 1; the
+    /// first one's place.
+    pub(crate) fn take_run(&mut self, length: usize) -> Option<usize> {
+        let mut sorted = self.spare.clone();
+        sorted.sort_unstable();
+        let first = match length {
+            0 => *sorted.first()?,
+            _ => sorted.windows(length).find(|run| run[length - 1] - run[0] == length - 1)?[0],
+        };
+        let run = first..first + length;
+        self.spare.retain(|cluster| !run.contains(cluster));
+        run.for_each(|cluster| self.set_count(cluster, 1));
+        Some(first << self.cluster_bits)
     }
 
     /// Adds an L2 table of zeros below an L1 entry that has none.

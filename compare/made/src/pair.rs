@@ -53,7 +53,14 @@ impl<'c> Pair<'c> {
             Request::Lookup { offset } => {
                 self.answers(request, |side, image| part(image, side.lookup(image.lent(), offset)));
             }
-            Request::Read { offset, len } => self.read(request, offset, len),
+            Request::Read { offset, len } => {
+                self.read(request, len, |side, image, out| side.read(image, offset, out));
+            }
+            Request::ReadSnapshot { snapshot, offset, len } => {
+                self.read(request, len, |side, image, out| {
+                    side.read_snapshot(image, snapshot, offset, out)
+                });
+            }
             Request::Runs { offset, len, room } => self.runs(request, offset, len, room),
             Request::Check { scratch } => {
                 self.with_scratch(request, scratch, |side, image, scratch| {
@@ -106,12 +113,17 @@ impl<'c> Pair<'c> {
         left
     }
 
-    fn read(&mut self, request: &Request, offset: u64, len: usize) {
+    fn read(
+        &mut self,
+        request: &Request,
+        len: usize,
+        read: impl Fn(&dyn Calls, &[u8], &mut [u8]) -> Result<(), u32>,
+    ) {
         let before = vec![0xC3; len];
         let out = &mut [Guarded::of(&before), Guarded::of(&before)];
         let mut lent = out.iter_mut();
         let answer = self.answers(request, |side, image| {
-            side.read(image.lent(), offset, lent.next().expect("two sides").lent_mut())
+            read(side, image.lent(), lent.next().expect("two sides").lent_mut())
         });
         same(request, out, answer.is_err().then_some(&before));
     }
@@ -173,9 +185,10 @@ pub fn missing(tally: &BTreeMap<String, u64>) -> Vec<String> {
     for (call, answers, numbers) in [
         ("translate", ["Host", "Zeros", "Absent"].as_slice(), [11, 12, 13].as_slice()),
         ("read", &["Ok"], &[11, 12, 13]),
+        ("read_snapshot", &["Ok"], &[11]),
         ("runs", &["Ok"], &[11]),
-        ("write", storing, &[11, 12, 13, 14]),
-        ("discard", storing, &[11, 12, 13, 16]),
+        ("write", storing, &[11, 12, 13, 14, 22]),
+        ("discard", storing, &[11, 12, 13, 16, 22]),
         ("repair", storing, &[15, 17]),
         ("check", &["Sound", "Leaks", "BadL1", "BadL2", "Shared", "Short"], &[15]),
     ] {

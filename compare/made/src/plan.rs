@@ -168,6 +168,8 @@ impl Plan {
             spare: others,
             tables: Vec::new(),
             entries: Vec::new(),
+            snapshots_at: 0,
+            snapshots: Vec::new(),
         };
         write_header(&mut made);
         made.put64(AUTOCLEAR, self.autoclear);
@@ -287,6 +289,8 @@ pub fn bench_image_of(order: u32) -> Made {
         spare: (4..16).rev().collect(),
         tables: Vec::new(),
         entries: Vec::new(),
+        snapshots_at: 0,
+        snapshots: Vec::new(),
     };
     write_header(&mut made);
     write_tables(&mut made);

@@ -11,6 +11,8 @@ pub struct Real {
     /// "yes", or why the guest bytes cannot be compared.
     pub read_equal: String,
     pub guest: Option<Guest>,
+    /// The same of each snapshot.
+    pub snapshots: Vec<Guest>,
 }
 
 /// Guest content as runs of one byte: length and byte.
@@ -51,13 +53,16 @@ fn row(line: &str) -> Real {
     let path = directory().join(fields[0]);
     let bytes = fs::read(&path).unwrap_or_else(|error| panic!("{}: {error}", fields[0]));
     assert_eq!(bytes.len().to_string(), fields[1], "{}", fields[0]);
+    let guest = |end: &str| fs::read_to_string(path.with_extension(end)).ok();
+    let snapshots = (0..).map_while(|k| guest(&format!("{k}.guest")));
     let lines = fields[2].split(" | ").map(|line| line.replace(' ', "\t") + "\n");
     Real {
         file: fields[0].into(),
         bytes,
         report: lines.collect(),
         read_equal: fields[4].into(),
-        guest: fs::read_to_string(path.with_extension("guest")).ok().map(|text| parse(&text)),
+        guest: guest("guest").map(|text| parse(&text)),
+        snapshots: snapshots.map(|text| parse(&text)).collect(),
     }
 }
 

@@ -47,6 +47,21 @@ pub fn guest_bytes(side: &dyn Calls) {
     assert!(compared >= 16);
 }
 
+/// The same for snapshots.
+pub fn snapshots(side: &dyn Calls) {
+    let mut compared = 0;
+    for real in all() {
+        for (snapshot, guest) in (0..).zip(&real.snapshots) {
+            let mut out = vec![0xC3; guest.size() as usize];
+            let answer = side.read_snapshot(&real.bytes, snapshot, 0, &mut out);
+            assert_eq!(answer, Ok(()), "{} {snapshot}", real.file);
+            assert!(out == guest.bytes(0, out.len()), "{} {snapshot}", real.file);
+            compared += 1;
+        }
+    }
+    assert!(compared >= 1);
+}
+
 /// Lookups agree with translation and with the guest bytes.
 pub fn lookups(side: &dyn Calls) {
     for real in all().iter().filter(|real| real.read_equal == "yes") {
@@ -73,7 +88,7 @@ pub fn series(side: &dyn Calls) {
 
 fn series_of(real: &Real, mut series: Series) {
     let mut image = real.bytes.clone();
-    let repair = Call::Repair { scratch: image.len() / 512 };
+    let repair = Call::Repair { scratch: image.len() / 256 };
     let mut step = |call, allowance| {
         let answer = series.step(&mut image, call, allowance);
         answer.unwrap_or_else(|fault| panic!("{}: {fault}", real.file))

@@ -53,8 +53,14 @@ fn spell(verdict: Verdict) -> String {
         Verdict::Leaks(leaks) => format!("leaks\t{leaks}"),
         Verdict::BadL1(l1) => format!("damaged\tentry\t{l1}\t-"),
         Verdict::BadL2(l1, l2) => format!("damaged\tentry\t{l1}\t{l2}"),
+        Verdict::SnapshotBadL1(l1, snapshot) => format!("damaged\tentry\t{l1}\t-\t{snapshot}"),
+        Verdict::SnapshotBadL2(l1, l2, snapshot) => {
+            format!("damaged\tentry\t{l1}\t{l2}\t{snapshot}")
+        }
         Verdict::Shared(cluster) => format!("damaged\tshared\t{cluster}"),
         Verdict::Short(cluster) => format!("damaged\tshort\t{cluster}"),
+        Verdict::MarkL1(l1) => format!("damaged\tmark\t{l1}\t-"),
+        Verdict::MarkL2(l1, l2) => format!("damaged\tmark\t{l1}\t{l2}"),
         Verdict::Refused(number) => format!("refused\t{number}"),
     }
 }

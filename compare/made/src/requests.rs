@@ -15,6 +15,11 @@ pub enum Request {
         offset: u64,
         len: usize,
     },
+    ReadSnapshot {
+        snapshot: u64,
+        offset: u64,
+        len: usize,
+    },
     Lookup {
         offset: u64,
     },
@@ -52,6 +57,9 @@ impl fmt::Debug for Request {
                 write!(to, " at {offset}")
             }
             Request::Read { offset, len } => write!(to, " {len} at {offset}"),
+            Request::ReadSnapshot { snapshot, offset, len } => {
+                write!(to, " {snapshot}, {len} at {offset}")
+            }
             Request::Runs { offset, len, room } => {
                 write!(to, " of {len} at {offset}, room for {room}")
             }
@@ -75,6 +83,7 @@ impl Request {
         match self {
             Request::Translate { .. } => "translate",
             Request::Read { .. } => "read",
+            Request::ReadSnapshot { .. } => "read_snapshot",
             Request::Lookup { .. } => "lookup",
             Request::Runs { .. } => "runs",
             Request::Write { .. } => "write",
@@ -99,12 +108,14 @@ impl<'m> Requests<'m> {
     }
 
     pub fn any(&mut self, rng: &mut Rng) -> Request {
-        match rng.below(18) {
+        match rng.below(20) {
             0..=1 => Request::Translate { offset: self.offset(rng) },
             2..=4 => {
                 let offset = self.offset(rng);
-                Request::Read { offset, len: self.read_length(offset, rng) }
+                Request::Read { offset, len: self.read_length(self.made.size, offset, rng) }
             }
+            18 => self.read_snapshot(rng),
+            19 if !self.made.snapshots.is_empty() => self.read_snapshot(rng),
             5 => Request::Lookup { offset: self.offset(rng) },
             6 => Request::Check { scratch: self.scratch(rng) },
             7..=8 => self.runs(rng),
@@ -204,8 +215,45 @@ impl<'m> Requests<'m> {
         len as usize
     }
 
-    fn read_length(&self, offset: u64, rng: &mut Rng) -> usize {
-        let (cluster, size) = (self.made.cluster() as u64, self.made.size);
+    /// A read of a snapshot that is there, or of the one after the last.
+    fn read_snapshot(&mut self, rng: &mut Rng) -> Request {
+        let count = self.made.snapshots.len() as u64;
+        let chosen = if rng.once_in(12) { count } else { rng.below(count.max(1)) };
+        let snapshot = if rng.once_in(60) { edge(0, 1 << 32, rng) } else { chosen };
+        let reach = match self.made.snapshots.get(snapshot as usize) {
+            Some(snapshot) => (snapshot.l1_size * self.made.per_table()) as u64,
+            None => 1,
+        } << self.made.cluster_bits;
+        let offset = match rng.below(8) {
+            0 => edge(reach, self.made.cluster() as u64, rng),
+            1 => rng.below(reach + 1),
+            2..=5 => self.offset_in(snapshot, rng),
+            _ => self.offset(rng),
+        };
+        Request::ReadSnapshot { snapshot, offset, len: self.read_length(reach, offset, rng) }
+    }
+
+    /// A guest offset below one of a snapshot's L2 tables, where it has any.
+    fn offset_in(&mut self, snapshot: u64, rng: &mut Rng) -> u64 {
+        match self.made.snapshots.get(snapshot as usize) {
+            Some(snapshot) if !snapshot.tables.is_empty() => {
+                let (l1_index, table) = rng.pick(&snapshot.tables);
+                let within = table..table + self.made.cluster();
+                let entries: Vec<usize> =
+                    self.made.entries.iter().copied().filter(|at| within.contains(at)).collect();
+                let l2_index = match entries.is_empty() || rng.once_in(4) {
+                    true => rng.index(self.made.per_table()),
+                    false => (rng.pick(&entries) - table) / 8,
+                };
+                let guest = l1_index * self.made.per_table() + l2_index;
+                ((guest as u64) << self.made.cluster_bits) + rng.below(self.made.cluster() as u64)
+            }
+            _ => self.offset(rng),
+        }
+    }
+
+    fn read_length(&self, size: u64, offset: u64, rng: &mut Rng) -> usize {
+        let cluster = self.made.cluster() as u64;
         let most = size.saturating_sub(offset).min(4 * cluster + 4096);
         let random = rng.below(most + 1);
         let edges = [0, 1, cluster, most, most + 1, 3 * cluster];
@@ -231,11 +279,11 @@ impl<'m> Requests<'m> {
     }
 
     pub fn scratch(&self, rng: &mut Rng) -> usize {
-        let clusters = self.made.clusters();
+        let needed = self.made.scratch();
         match rng.below(8) {
-            0 => rng.pick(&[0, 1, clusters.saturating_sub(1), clusters / 2]),
-            1 => clusters + 1 + rng.index(100),
-            _ => clusters,
+            0 => rng.pick(&[0, 1, needed.saturating_sub(1), needed / 2]),
+            1 => needed + 1 + rng.index(100),
+            _ => needed,
         }
     }
 }

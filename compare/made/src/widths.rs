@@ -46,7 +46,7 @@ fn discard(cluster: u64) -> Request {
 }
 
 fn repair() -> Request {
-    Request::Repair { scratch: 64, allowance: ALL }
+    Request::Repair { scratch: 128, allowance: ALL }
 }
 
 /// A count: small, near 2^16 and 2^32, the greatest, or any.
@@ -120,7 +120,7 @@ pub fn compare_lists(pair: &mut Pair, rng: &mut Rng) -> u64 {
 }
 
 fn compare_list(pair: &mut Pair, made: &Made, request: &Request, rng: &mut Rng) -> u64 {
-    let check = Request::Check { scratch: made.clusters() };
+    let check = Request::Check { scratch: made.scratch() };
     pair.load(&made.bytes);
     pair.run(&check);
     let Some(Outcome::Finished(units)) = pair.run(request) else {
@@ -150,7 +150,7 @@ pub fn series_at_every_unit(side: &dyn Calls) {
                 answer.unwrap_or_else(|fault| panic!("order {order} at {units}: {fault}"))
             };
             let write = Call::Write { offset: 33_285, data: b"hello" };
-            let repair = Call::Repair { scratch: 64 };
+            let repair = Call::Repair { scratch: 128 };
             step(write, units);
             step(repair, units % 4);
             step(write, ALL);

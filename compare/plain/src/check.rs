@@ -4,9 +4,12 @@
 use answers::{Outcome, Verdict};
 
 use crate::compare::{compare, store_references};
-use crate::entries::Rules;
-use crate::header::{be64, zero, Header};
+use crate::header::Header;
 use crate::list::List;
+use crate::marks::wrong_mark;
+use crate::owners::{ManyDisks, OneDisk, Owners};
+use crate::references::Count;
+use crate::width::Figure;
 
 /// Counts the references into `scratch` and judges the stored counts by them.
 pub fn check(image: &[u8], scratch: &mut [u8]) -> Verdict {
@@ -38,106 +41,38 @@ pub fn repair(image: &mut [u8], scratch: &mut [u8], allowance: u64) -> Outcome {
 }
 
 /// A cluster's stored count less the scratch's figure, with its sign.
-pub fn difference(stored: u64, figure: u8) -> i32 {
+pub fn difference(stored: u64, figure: u16) -> i32 {
     (i128::from(stored) - i128::from(figure)).min(65_535) as i32
 }
 
 fn examine(image: &[u8], scratch: &mut [u8]) -> Result<(Header, Verdict), u32> {
     let header = Header::judge(image)?;
-    let figures = scratch.get_mut(..header.clusters).ok_or(15u32)?;
+    let figures = scratch.get_mut(..2 * header.clusters).ok_or(15u32)?;
     figures.fill(0);
-    let mut count = Count { header: &header, image, figures, shared: false, bad: None };
-    count.fixed_structures();
-    count.tables();
-    let (shared, bad) = (count.shared, count.bad);
-    let verdict = match bad {
-        Some(verdict) => verdict,
-        None if shared => Verdict::Shared(lowest(figures, |&figure| figure > 1)),
-        None => compare(&header, image, figures),
+    let figures = figures.as_chunks_mut().0;
+    let verdict = match header.snapshots.disks.is_empty() {
+        true => judge(&header, image, figures, OneDisk::default()),
+        false => judge(&header, image, figures, ManyDisks::of(header.clusters)),
     };
     Ok((header, verdict))
 }
 
-fn lowest(figures: &[u8], wanted: impl Fn(&u8) -> bool) -> u64 {
-    figures.iter().position(wanted).expect("a cluster is known to be there") as u64
-}
-
-/// The counting of references.
-struct Count<'a> {
-    header: &'a Header,
-    image: &'a [u8],
-    figures: &'a mut [u8],
-    shared: bool,
-    /// The first bad entry.
-    bad: Option<Verdict>,
-}
-
-impl Count<'_> {
-    fn refer(&mut self, place: usize) {
-        let before = refer(&mut self.figures[place >> self.header.cluster_bits]);
-        self.shared |= before != 0;
+fn judge(header: &Header, image: &[u8], figures: &mut [Figure], owners: impl Owners) -> Verdict {
+    let mut count = Count::new(header, image, figures, owners);
+    count.all();
+    let Count { owners, bad, unmarked, .. } = count;
+    if let Some(verdict) = bad {
+        return verdict;
     }
-
-    /// Header cluster, refcount table, L1 table and refcount blocks.
-    fn fixed_structures(&mut self) {
-        let header = self.header;
-        let cluster = header.cluster();
-        self.refer(0);
-        for k in 0..header.table_clusters {
-            self.refer(header.table_at + k * cluster);
-        }
-        for at in (header.l1_at..header.l1_at + 8 * header.l1_size).step_by(cluster) {
-            self.refer(at);
-        }
-        for index in 0..header.blocks {
-            self.refer(header.block_at(self.image, index));
-        }
+    if let Some(cluster) = owners.lowest_shared(figures) {
+        return Verdict::Shared(cluster as u64);
     }
-
-    /// L1 entries and the L2 entries below them.
-    fn tables(&mut self) {
-        let rules = Rules::of(self.header);
-        for l1_index in 0..self.header.l1_size {
-            match rules.l1(be64(self.image, self.header.l1_at + 8 * l1_index)) {
-                Some(0) => {}
-                Some(table) => {
-                    self.refer(table);
-                    self.table(&rules, l1_index as u64, table);
-                }
-                None => _ = self.bad.get_or_insert(Verdict::BadL1(l1_index as u64)),
-            }
-        }
+    let verdict = compare(header, image, figures);
+    // Without snapshots each figure is 1 here, and a bit that is clear is wrong.
+    let marks_may_be_wrong = unmarked || !header.snapshots.disks.is_empty();
+    match verdict {
+        Verdict::Short(_) => verdict,
+        _ if marks_may_be_wrong => wrong_mark(header, image, figures).unwrap_or(verdict),
+        _ => verdict,
     }
-
-    /// The entries of an L2 table, 64 at a time; most groups of zeros need no
-    /// more than a look. One compare tells a good entry with a place: the
-    /// index of its cluster's figure is in bounds.
-    fn table(&mut self, rules: &Rules, l1_index: u64, table: usize) {
-        let others = &mut self.figures[1..];
-        let mut seen = 0;
-        let groups = self.image[table..][..self.header.cluster()].as_chunks::<512>().0;
-        for (index, group) in groups.iter().enumerate() {
-            if zero(group) {
-                continue;
-            }
-            for (l2_index, entry) in group.as_chunks().0.iter().enumerate() {
-                let entry = rules.unmarked(u64::from_be_bytes(*entry));
-                if let Some(figure) = others.get_mut(rules.other(entry)) {
-                    seen |= refer(figure);
-                } else if entry != 0 {
-                    let l2_index = (64 * index + l2_index) as u64;
-                    self.bad.get_or_insert(Verdict::BadL2(l1_index, l2_index));
-                }
-            }
-        }
-        self.shared |= seen != 0;
-    }
-}
-
-/// One reference more; the figure before.
-#[inline]
-fn refer(figure: &mut u8) -> u8 {
-    let before = *figure;
-    *figure = 1 + u8::from(before != 0);
-    before
 }

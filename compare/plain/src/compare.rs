@@ -3,17 +3,17 @@
 use answers::Verdict;
 
 use crate::header::Header;
-use crate::width::{for_width, ForWidth, Width};
+use crate::width::{for_width, Figure, ForWidth, Width};
 
-/// The verdict where no entry is bad and no figure above 1.
-pub(crate) fn compare(header: &Header, image: &[u8], figures: &[u8]) -> Verdict {
+/// Short, leaking or sound.
+pub(crate) fn compare(header: &Header, image: &[u8], figures: &[Figure]) -> Verdict {
     for_width(header.order, Compare { header, image, figures })
 }
 
 struct Compare<'a> {
     header: &'a Header,
     image: &'a [u8],
-    figures: &'a [u8],
+    figures: &'a [Figure],
 }
 
 impl ForWidth for Compare<'_> {
@@ -44,29 +44,29 @@ impl ForWidth for Compare<'_> {
 const FEW: usize = 128;
 
 /// The first count below its figure, in a block that has one.
-fn first_short<W: Width>(block: &[u8], figures: &[u8]) -> usize {
-    let weighed = |(index, few): &(usize, &[u8])| {
+fn first_short<W: Width>(block: &[u8], figures: &[Figure]) -> usize {
+    let weighed = |(index, few): &(usize, &[Figure])| {
         let at = ((FEW * index) << W::ORDER) / 8;
         W::weigh(&block[at..], few).below
     };
     let (index, few) = figures.chunks(FEW).enumerate().find(weighed).expect("weighed before");
     let first = FEW * index;
-    let short = |k: &usize| W::count(block, first + k) < u64::from(few[*k]);
+    let short = |k: &usize| W::count(block, first + k) < u16::from_be_bytes(few[*k]).into();
     first + (0..few.len()).find(short).expect("weighed before")
 }
 
-/// Sets the first `units` counts that differ from the figures to them. The
-/// image is not damaged: no block lies on another structure, so no store
+/// Sets the first `units` counts that differ from the scratch's figures to them.
+/// The image is not damaged: no block lies on another structure, so no store
 /// changes what is read later on.
-pub(crate) fn store_references(header: &Header, image: &mut [u8], figures: &[u8], units: u64) {
-    let figures = &figures[..header.clusters];
+pub(crate) fn store_references(header: &Header, image: &mut [u8], scratch: &[u8], units: u64) {
+    let figures = &scratch.as_chunks().0[..header.clusters];
     for_width(header.order, StoreReferences { header, image, figures, left: units });
 }
 
 struct StoreReferences<'a> {
     header: &'a Header,
     image: &'a mut [u8],
-    figures: &'a [u8],
+    figures: &'a [Figure],
     left: u64,
 }
 

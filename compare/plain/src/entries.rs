@@ -1,8 +1,8 @@
 //! L1 and L2 entries, and the way from a guest cluster to its entry.
 
-use crate::header::{be64, Header};
+use crate::header::{be64, Disk, Header};
 
-/// Bit 63: set in every entry with a place.
+/// Bit 63: the place has no other owner. Set in every new entry.
 pub(crate) const USED: u64 = 1 << 63;
 const COMPRESSED: u64 = 1 << 62;
 
@@ -40,13 +40,13 @@ impl Rules {
         }
     }
 
-    /// The number of the cluster that a good entry without zero mark names, less
-    /// 1. With bit 63 turned over and the place rotated down, a good entry is
-    /// the cluster's number, and any wrong bit makes it greater than that of
-    /// every cluster.
+    /// One less than the number of the cluster that a good entry without zero mark
+    /// names. Without bit 63 and with the place rotated down, a good entry is the
+    /// cluster's number, and any wrong bit makes it greater than that of every
+    /// cluster.
     #[inline]
     pub fn other(&self, entry: u64) -> usize {
-        (entry ^ USED).rotate_right(self.cluster_bits).wrapping_sub(1) as usize
+        (entry & !USED).rotate_right(self.cluster_bits).wrapping_sub(1) as usize
     }
 
     /// An L2 entry without a zero mark that is allowed.
@@ -105,16 +105,41 @@ impl Header {
     }
 
     /// The entry of a guest cluster below the disk's end.
-    pub fn slot(&self, image: &[u8], cluster: u64) -> Result<Slot, u32> {
+    pub fn slot(&self, image: &[u8], disk: Disk, cluster: u64) -> Result<Slot, u32> {
+        self.way(image, disk, cluster, |_| Ok(()))
+    }
+
+    /// The same for one who stores: 22 where what an entry names may have other
+    /// owners.
+    pub fn own_slot(&self, image: &[u8], cluster: u64) -> Result<Slot, u32> {
+        let own = |entry| if entry & USED == 0 { Err(22) } else { Ok(()) };
+        self.way(image, self.disk, cluster, own)
+    }
+
+    /// `allow` is asked about each good entry with a place.
+    #[inline]
+    fn way(
+        &self,
+        image: &[u8],
+        disk: Disk,
+        cluster: u64,
+        allow: impl Fn(u64) -> Result<(), u32>,
+    ) -> Result<Slot, u32> {
         let rules = Rules::of(self);
         let (l1_index, l2_index) = self.indices(cluster);
-        let l1_at = self.l1_at + 8 * l1_index;
-        let table = rules.l1(be64(image, l1_at)).ok_or(12u32)?;
+        let l1_at = disk.l1_at + 8 * l1_index;
+        let l1_entry = be64(image, l1_at);
+        let table = rules.l1(l1_entry).ok_or(12u32)?;
         if table == 0 {
             return Ok(Slot::NoTable { l1_at });
         }
+        allow(l1_entry)?;
         let at = table + 8 * l2_index;
-        let mapping = rules.mapping(be64(image, at))?;
+        let entry = be64(image, at);
+        let mapping = rules.mapping(entry)?;
+        if mapping.place != 0 {
+            allow(entry)?;
+        }
         Ok(Slot::Entry { at, mapping })
     }
 }

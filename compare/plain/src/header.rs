@@ -1,20 +1,27 @@
-//! The header, judged afresh by every call: numbers 1 to 8, 18, 9 and
-//! 10, tried in this order.
+//! The header, judged afresh by every call: numbers 1 to 8, 18, 9, 10 and 21,
+//! tried in this order.
 
 use std::ops::RangeInclusive;
+
+use crate::snapshots::Snapshots;
 
 const MAGIC: [u8; 4] = [0x51, 0x46, 0x49, 0xFB];
 /// The smallest and the greatest cluster_bits.
 const BITS: RangeInclusive<u32> = 9..=21;
 const MAX_IMAGE: usize = 1 << 30;
 const MAX_DISK: u64 = 1 << 40;
-const MAX_L1: u64 = 65_536;
+pub(crate) const MAX_L1: u64 = 65_536;
 const MAX_ORDER: u32 = 6;
+const MAX_SNAPSHOTS: u32 = 64;
 /// Version 2 has no such field.
 const VERSION_2_ORDER: u32 = 4;
 const SECTOR: u64 = 512;
 /// The place of autoclear_features.
 pub(crate) const AUTOCLEAR: usize = 88;
+
+pub(crate) fn be16(image: &[u8], at: usize) -> u16 {
+    u16::from_be_bytes(image[at..at + 2].try_into().unwrap())
+}
 
 pub(crate) fn be32(image: &[u8], at: usize) -> u32 {
     u32::from_be_bytes(image[at..at + 4].try_into().unwrap())
@@ -24,17 +31,37 @@ pub(crate) fn be64(image: &[u8], at: usize) -> u64 {
     u64::from_be_bytes(image[at..at + 8].try_into().unwrap())
 }
 
+/// A disk that the image holds: the active one, or that of a snapshot.
+#[derive(Clone, Copy)]
+pub(crate) struct Disk {
+    pub l1_at: usize,
+    pub l1_size: usize,
+    pub size: u64,
+}
+
+impl Disk {
+    /// The disk that goes as far as its L1 table reaches, 2^55 at most.
+    pub fn reached(l1_at: u64, l1_size: u64, cluster_bits: u32) -> Disk {
+        let size = l1_size << (2 * cluster_bits - 3);
+        Disk { l1_at: l1_at as usize, l1_size: l1_size as usize, size }
+    }
+
+    /// Does the range lie inside the disk?
+    pub fn holds(&self, offset: u64, len: u64) -> bool {
+        offset <= self.size && len <= self.size - offset
+    }
+}
+
 /// A header that was accepted, with every place known to be inside the image.
 pub(crate) struct Header {
     pub version: u32,
     pub cluster_bits: u32,
     /// A stored count has 2^order bits.
     pub order: u32,
-    pub size: u64,
+    pub disk: Disk,
+    pub snapshots: Snapshots,
     /// Version 3; 0 in version 2, which has no such field.
     pub autoclear: u64,
-    pub l1_size: usize,
-    pub l1_at: usize,
     pub table_at: usize,
     pub table_clusters: usize,
     /// Clusters of the image (N).
@@ -60,11 +87,11 @@ impl Header {
             return Err(18);
         }
         let header = tables(image, (version, cluster_bits, order), size, l1_size)?;
-        if header.blocks_are_good(image) {
-            Ok(header)
-        } else {
-            Err(10)
+        if !header.blocks_are_good(image) {
+            return Err(10);
         }
+        let snapshots = Snapshots::judge(image, cluster_bits, be64(image, 64), be32(image, 60))?;
+        Ok(Header { snapshots, ..header })
     }
 
     /// Cluster size (C).
@@ -72,14 +99,9 @@ impl Header {
         1 << self.cluster_bits
     }
 
-    /// Does the guest range lie inside the disk?
-    pub fn holds(&self, offset: u64, len: u64) -> bool {
-        offset <= self.size && len <= self.size - offset
-    }
-
     /// Guest clusters that begin below the disk's end.
-    pub fn guest_clusters(&self) -> u64 {
-        self.size.div_ceil(1 << self.cluster_bits)
+    pub fn guest_clusters(&self, disk: Disk) -> u64 {
+        disk.size.div_ceil(1 << self.cluster_bits)
     }
 
     fn blocks_are_good(&self, image: &[u8]) -> bool {
@@ -121,7 +143,7 @@ fn shape(image: &[u8]) -> Result<(u32, u32), u32> {
 
 /// Numbers 6 and 7: refcount_order.
 fn features(image: &[u8], version: u32) -> Result<u32, u32> {
-    if be64(image, 8) != 0 || be32(image, 32) != 0 || be32(image, 60) != 0 {
+    if be64(image, 8) != 0 || be32(image, 32) != 0 || be32(image, 60) > MAX_SNAPSHOTS {
         return Err(6);
     }
     if version == 2 {
@@ -137,6 +159,12 @@ fn features(image: &[u8], version: u32) -> Result<u32, u32> {
     Ok(order)
 }
 
+/// Does a table of `len` bytes start at a cluster and end inside the image?
+pub(crate) fn fits(image: &[u8], cluster_bits: u32, at: u64, len: u64) -> bool {
+    let n = image.len() as u64;
+    at & ((1 << cluster_bits) - 1) == 0 && at <= n && len <= n - at
+}
+
 /// Number 9: the places of the L1 table and the refcount table.
 fn tables(
     image: &[u8],
@@ -144,13 +172,12 @@ fn tables(
     size: u64,
     l1_size: u64,
 ) -> Result<Header, u32> {
-    let n = image.len() as u64;
-    let fits = |at: u64, len: u64| at & ((1 << cluster_bits) - 1) == 0 && at <= n && len <= n - at;
+    let fits = |at, len| fits(image, cluster_bits, at, len);
     let l1_at = be64(image, 40);
     let table_at = be64(image, 48);
     let table_clusters = u64::from(be32(image, 56));
     let table_len = table_clusters << cluster_bits;
-    let clusters = n >> cluster_bits;
+    let clusters = image.len() as u64 >> cluster_bits;
     let blocks = clusters.div_ceil(1 << (cluster_bits + 3 - order));
     if !fits(l1_at, 8 * l1_size) || !fits(table_at, table_len) || table_len / 8 < blocks {
         return Err(9);
@@ -159,10 +186,9 @@ fn tables(
         version,
         cluster_bits,
         order,
-        size,
+        disk: Disk { size, ..Disk::reached(l1_at, l1_size, cluster_bits) },
+        snapshots: Snapshots::default(),
         autoclear: if version == 3 { be64(image, AUTOCLEAR) } else { 0 },
-        l1_size: l1_size as usize,
-        l1_at: l1_at as usize,
         table_at: table_at as usize,
         table_clusters: table_clusters as usize,
         clusters: clusters as usize,

@@ -9,9 +9,13 @@ mod counts;
 mod entries;
 mod header;
 mod list;
+mod marks;
 mod narrow;
+mod owners;
 pub mod plain_disk;
 mod reading;
+mod references;
+mod snapshots;
 mod storing;
 mod wide;
 mod width;
@@ -19,7 +23,7 @@ mod words;
 
 pub use answers::{Found, Outcome, Run, Verdict};
 pub use check::{check, difference, repair};
-pub use reading::{lookup, read, runs, translate};
+pub use reading::{lookup, read, read_snapshot, runs, translate};
 pub use storing::{discard, write};
 
 /// This crate as an implementation of [`answers::Calls`].

@@ -1,6 +1,6 @@
 //! Counts of 1, 2 and 4 bits, several to a byte.
 
-use crate::width::{Weighed, Width, GROUP};
+use crate::width::{Figure, Weighed, Width, GROUP};
 use crate::words::{first_zero, Words};
 
 pub(crate) struct Bits1;
@@ -11,17 +11,20 @@ pub(crate) struct Bits4;
 impl Width for Bits1 {
     const ORDER: u32 = 0;
 
-    fn weigh(block: &[u8], figures: &[u8]) -> Weighed {
+    fn weigh(block: &[u8], figures: &[Figure]) -> Weighed {
         let (groups, rest) = figures.as_chunks::<64>();
         let mut weighed = Self::weigh_each(block, 64 * groups.len(), rest);
         let mut below = 0;
         for (counts, figures) in block.as_chunks().0.iter().zip(groups) {
             // Bit k of byte j: the figure or count 8k + j.
-            let figures = figures.as_chunks().0.iter().rev();
-            let figures = figures.fold(0, |word, &eight| 2 * word + u64::from_le_bytes(eight));
+            let bits = lowered(figures, 1);
+            let bits = bits.as_chunks().0.iter().rev();
+            let bits = bits.fold(0, |word, &eight| 2 * word + u64::from_le_bytes(eight));
             let counts = transposed(u64::from_le_bytes(*counts));
-            weighed.above += u64::from((counts & !figures).count_ones());
-            below |= figures & !counts;
+            weighed.above += u64::from((counts & !bits).count_ones());
+            below |= bits & !counts;
+            weighed.below |=
+                figures.iter().fold(0, |or, &figure| or | u16::from_be_bytes(figure)) > 1;
         }
         weighed.below |= below != 0;
         weighed
@@ -31,7 +34,7 @@ impl Width for Bits1 {
         first_zero::<Self>(block, from, to)
     }
 
-    fn set(block: &mut [u8], figures: &[u8], units: u64) -> u64 {
+    fn set(block: &mut [u8], figures: &[Figure], units: u64) -> u64 {
         set::<1>(block, figures, units)
     }
 }
@@ -48,9 +51,21 @@ fn transposed(word: u64) -> u64 {
     swapped(word, 7, 0x00AA_00AA_00AA_00AA)
 }
 
+/// The figures as bytes, with `most` for a greater one.
+#[inline]
+fn lowered<const LEN: usize>(figures: &[Figure; LEN], most: u16) -> [u8; LEN] {
+    let mut bytes = [0; LEN];
+    for (byte, &figure) in bytes.iter_mut().zip(figures) {
+        *byte = u16::from_be_bytes(figure).min(most) as u8;
+    }
+    bytes
+}
+
 /// Bytes of counts that are weighed at once. The sums of a group are kept in
 /// the bytes of a lane, 255 at most.
 const WEIGHED: usize = 128;
+/// A figure that is above every count of less than eight bits.
+const MANY: u16 = 127;
 
 /// Weighs counts by spreading a byte of them out to a lane that has a byte for
 /// each, as the figures have.
@@ -61,10 +76,14 @@ macro_rules! weighed_by_lanes {
             /// Both sides are so small that no byte of a sum runs over: a
             /// difference above 0 and 127 have bit 7 set.
             #[inline]
-            fn weigh_lanes(counts: &[u8], figures: &[[u8; 8 >> $order]]) -> ($lane, $lane) {
+            fn weigh_lanes(
+                counts: &[u8; WEIGHED],
+                figures: &[Figure; WEIGHED * (8 >> $order)],
+            ) -> ($lane, $lane) {
                 const ONES: $lane = <$lane>::MAX / 255;
                 let (mut above, mut below) = (0, 0);
-                for (&byte, &figures) in counts.iter().zip(figures) {
+                let figures = lowered(figures, MANY);
+                for (&byte, &figures) in counts.iter().zip(figures.as_chunks().0) {
                     let counts: $lane = $spread(<$lane>::from(byte));
                     let figures = <$lane>::from_le_bytes(figures);
                     above += (counts + (127 * ONES - figures)) >> 7 & ONES;
@@ -77,19 +96,14 @@ macro_rules! weighed_by_lanes {
         impl Width for $name {
             const ORDER: u32 = $order;
 
-            fn weigh(block: &[u8], figures: &[u8]) -> Weighed {
-                let (lanes, rest) = figures.as_chunks();
-                let (groups, lanes_left) = lanes.as_chunks::<WEIGHED>();
-                let (counts, counts_left) = block[..lanes.len()].as_chunks::<WEIGHED>();
+            fn weigh(block: &[u8], figures: &[Figure]) -> Weighed {
+                let (groups, rest) = figures.as_chunks();
                 let mut weighed = Self::weigh_each(block, figures.len() - rest.len(), rest);
-                let mut add = |(above, below): ($lane, $lane)| {
+                for (counts, figures) in block.as_chunks().0.iter().zip(groups) {
+                    let (above, below) = Self::weigh_lanes(counts, figures);
                     weighed.above += above.to_le_bytes().map(u64::from).iter().sum::<u64>();
                     weighed.below |= below != 0;
-                };
-                for (counts, figures) in counts.iter().zip(groups) {
-                    add(Self::weigh_lanes(counts, figures));
                 }
-                add(Self::weigh_lanes(counts_left, lanes_left));
                 weighed
             }
 
@@ -97,7 +111,7 @@ macro_rules! weighed_by_lanes {
                 first_zero::<Self>(block, from, to)
             }
 
-            fn set(block: &mut [u8], figures: &[u8], units: u64) -> u64 {
+            fn set(block: &mut [u8], figures: &[Figure], units: u64) -> u64 {
                 set::<{ 1 << $order }>(block, figures, units)
             }
         }
@@ -138,12 +152,12 @@ impl Words for Bits4 {
     }
 }
 
-fn set<const BITS: usize>(block: &mut [u8], figures: &[u8], units: u64) -> u64 {
+fn set<const BITS: usize>(block: &mut [u8], figures: &[Figure], units: u64) -> u64 {
     let mut done = 0;
     for (byte, figures) in block.iter_mut().zip(figures.chunks(8 / BITS)) {
         for (index, &figure) in figures.iter().enumerate() {
             let (shift, ones) = (BITS * index, (1 << BITS) - 1);
-            let differ = *byte >> shift & ones ^ figure;
+            let differ = *byte >> shift & ones ^ figure[1];
             if differ != 0 {
                 if done == units {
                     return done;

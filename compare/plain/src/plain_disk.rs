@@ -1,12 +1,13 @@
 //! The plain disk: one byte for each guest offset, fed each call of a series,
-//! and the claim that holds after every call. A checker for tests.
+//! and the claim that holds after every call; and that no call changes a byte of
+//! a snapshot. A checker for tests.
 
 use std::collections::{BTreeMap, BTreeSet};
 
 use answers::{Calls, Outcome, Verdict};
 
 use crate::entries::Rules;
-use crate::header::{be64, Header};
+use crate::header::{be64, Disk, Header};
 use crate::list::List;
 use crate::storing::{discard_list, write_list};
 
@@ -110,11 +111,16 @@ fn expected(settled: Settled, allowance: u64) -> Outcome {
     }
 }
 
+/// Bytes of a snapshot's disk: its number, the offset and the bytes.
+type Kept = (u64, u64, Vec<u8>);
+
 /// A series of calls of one implementation, followed by the plain disk.
 #[derive(Clone)]
 pub struct Series<'c> {
     calls: &'c dyn Calls,
     disk: PlainDisk,
+    /// What the snapshots have kept.
+    kept: Vec<Kept>,
 }
 
 impl<'c> Series<'c> {
@@ -122,8 +128,9 @@ impl<'c> Series<'c> {
     pub fn start(calls: &'c dyn Calls, image: &[u8]) -> Result<Series<'c>, String> {
         let header = Header::judge(image).map_err(|number| format!("refused {number}"))?;
         let page = header.cluster() as u64;
-        let disk = PlainDisk { size: header.size, page, pages: BTreeMap::new() };
-        let mut series = Series { calls, disk };
+        let disk = PlainDisk { size: header.disk.size, page, pages: BTreeMap::new() };
+        let mut series = Series { calls, disk, kept: Vec::new() };
+        series.kept = series.snapshots(image)?;
         for (offset, len) in series.reads(image) {
             let bytes = series.read(image, offset, len)?;
             series.disk.set(offset, &bytes);
@@ -196,14 +203,18 @@ impl<'c> Series<'c> {
         Ok(())
     }
 
-    /// Reads agree with the plain disk and the check says sound or leaking.
+    /// Reads agree with the plain disk and with the snapshots, and the check says
+    /// sound or leaking.
     fn hold(&self, image: &[u8], repaired: bool) -> Result<(), String> {
         for (offset, len) in self.reads(image) {
             if self.read(image, offset, len)? != self.disk.get(offset, len) {
                 return Err(format!("read of {len} at {offset} is not the plain disk's"));
             }
         }
-        let mut scratch = vec![0x5A; image.len() / self.disk.page as usize];
+        if self.snapshots(image)? != self.kept {
+            return Err("a snapshot has changed".into());
+        }
+        let mut scratch = vec![0x5A; 2 * image.len() / self.disk.page as usize];
         let verdict = self.calls.check(image, &mut scratch);
         if !verdict.is_usable() || repaired && verdict != Verdict::Sound {
             return Err(format!("the check says {verdict:?}"));
@@ -211,9 +222,9 @@ impl<'c> Series<'c> {
         let header = Header::judge(image).map_err(|number| format!("refused {number}"))?;
         let differs = |cluster: usize| {
             let count = header.cell(image, cluster).load(image);
-            (count == 0) != (scratch[cluster] == 0)
+            (count == 0) != (scratch[2 * cluster..][..2] == [0; 2])
         };
-        match (0..scratch.len()).find(|&cluster| repaired && differs(cluster)) {
+        match (0..header.clusters).find(|&cluster| repaired && differs(cluster)) {
             Some(cluster) => Err(format!("repaired, but count of {cluster} is wrong")),
             None => Ok(()),
         }
@@ -227,39 +238,63 @@ impl<'c> Series<'c> {
         }
     }
 
-    /// The reads that show the whole disk: one, or for a long disk one around
-    /// each guest cluster that can be other than zeros, and the disk's ends.
+    /// The reads that show the whole disk.
     fn reads(&self, image: &[u8]) -> Vec<(u64, usize)> {
         let PlainDisk { size, page, ref pages } = self.disk;
-        if size <= WHOLE {
-            return vec![(0, size as usize)];
-        }
-        let mut wanted: BTreeSet<u64> = pages.keys().copied().chain(mapped(image)).collect();
-        wanted.extend([0, (size - 1) / page]);
-        let around = |cluster: u64| {
-            let from = (cluster * page).saturating_sub(1);
-            let to = size.min((cluster + 1) * page + 1);
-            (from, (to - from) as usize)
+        let Ok(header) = Header::judge(image) else {
+            return Vec::new();
         };
-        wanted.into_iter().map(around).collect()
+        let mut wanted = mapped(&header, image, header.disk);
+        wanted.extend(pages.keys());
+        showing(size, page, wanted)
+    }
+
+    /// What the snapshots' disks hold.
+    fn snapshots(&self, image: &[u8]) -> Result<Vec<Kept>, String> {
+        let header = Header::judge(image).map_err(|number| format!("refused {number}"))?;
+        let mut kept = Vec::new();
+        for (snapshot, &disk) in (0..).zip(&header.snapshots.disks) {
+            let wanted = mapped(&header, image, disk);
+            for (offset, len) in showing(disk.size, self.disk.page, wanted) {
+                let mut out = vec![0xC3; len];
+                match self.calls.read_snapshot(image, snapshot, offset, &mut out) {
+                    Ok(()) => kept.push((snapshot, offset, out)),
+                    Err(number) => return Err(format!("snapshot {snapshot} refused {number}")),
+                }
+            }
+        }
+        Ok(kept)
     }
 }
 
-/// Guest clusters below the disk's end whose L2 entry is not 0.
-fn mapped(image: &[u8]) -> Vec<u64> {
-    let Ok(header) = Header::judge(image) else {
-        return Vec::new();
+/// The reads that show a whole disk: one, or for a long disk one around each of
+/// the guest clusters that can be other than zeros, and the disk's ends.
+fn showing(size: u64, page: u64, clusters: Vec<u64>) -> Vec<(u64, usize)> {
+    if size <= WHOLE {
+        return vec![(0, size as usize)];
+    }
+    let mut wanted: BTreeSet<u64> = clusters.into_iter().collect();
+    wanted.extend([0, (size - 1) / page]);
+    let around = |cluster: u64| {
+        let from = (cluster * page).saturating_sub(1);
+        let to = size.min((cluster + 1) * page + 1);
+        (from, (to - from) as usize)
     };
-    let rules = Rules::of(&header);
+    wanted.into_iter().map(around).collect()
+}
+
+/// Guest clusters below the disk's end whose L2 entry is not 0.
+fn mapped(header: &Header, image: &[u8], disk: Disk) -> Vec<u64> {
+    let rules = Rules::of(header);
     let per_table = header.cluster() / 8;
     let mut found = Vec::new();
-    for l1_index in 0..header.l1_size {
-        let Some(table @ 1..) = rules.l1(be64(image, header.l1_at + 8 * l1_index)) else {
+    for l1_index in 0..disk.l1_size {
+        let Some(table @ 1..) = rules.l1(be64(image, disk.l1_at + 8 * l1_index)) else {
             continue;
         };
         let entries = (0..per_table).filter(|k| be64(image, table + 8 * k) != 0);
         found.extend(entries.map(|k| (l1_index * per_table + k) as u64));
     }
-    found.retain(|&cluster| cluster < header.guest_clusters());
+    found.retain(|&cluster| cluster < header.guest_clusters(disk));
     found
 }

@@ -1,11 +1,11 @@
-//! Translate, read, lookup and runs.
+//! Translate, read, of the disk or of a snapshot, lookup and runs.
 
 use std::ops::Range;
 
 use answers::{Found, Run};
 
 use crate::entries::{Mapping, Rules, Slot};
-use crate::header::{be64, Header};
+use crate::header::{be64, Disk, Header};
 
 /// What stands behind `offset`.
 pub fn translate(image: &[u8], offset: u64) -> Found {
@@ -15,11 +15,11 @@ pub fn translate(image: &[u8], offset: u64) -> Found {
 }
 
 fn find(header: &Header, image: &[u8], offset: u64) -> Result<Found, u32> {
-    if offset >= header.size {
+    if offset >= header.disk.size {
         return Err(11);
     }
     let inside = offset & (header.cluster() as u64 - 1);
-    Ok(match header.slot(image, offset >> header.cluster_bits)? {
+    Ok(match header.slot(image, header.disk, offset >> header.cluster_bits)? {
         Slot::Entry { mapping, .. } => gives(Ok(mapping), inside),
         Slot::NoTable { .. } => Found::Absent,
     })
@@ -36,18 +36,35 @@ pub fn lookup(image: &[u8], offset: u64) -> &[u8] {
     };
     let host = host as usize;
     let to_cluster_end = header.cluster() - (host & (header.cluster() - 1));
-    let len = (header.size - offset).min(to_cluster_end as u64) as usize;
+    let len = (header.disk.size - offset).min(to_cluster_end as u64) as usize;
     &image[host..host + len]
 }
 
 /// Fills `out` with the guest bytes from `offset` on, or refuses and leaves it.
 pub fn read(image: &[u8], offset: u64, out: &mut [u8]) -> Result<(), u32> {
     let header = Header::judge(image)?;
-    if !header.holds(offset, out.len() as u64) {
+    read_disk(&header, image, header.disk, offset, out)
+}
+
+/// The same of the disk that a snapshot has kept, as far as its L1 table reaches.
+pub fn read_snapshot(image: &[u8], snapshot: u64, offset: u64, out: &mut [u8]) -> Result<(), u32> {
+    let header = Header::judge(image)?;
+    let disk = *header.snapshots.disks.get(snapshot as usize).ok_or(11u32)?;
+    read_disk(&header, image, disk, offset, out)
+}
+
+fn read_disk(
+    header: &Header,
+    image: &[u8],
+    disk: Disk,
+    offset: u64,
+    out: &mut [u8],
+) -> Result<(), u32> {
+    if !disk.holds(offset, out.len() as u64) {
         return Err(11);
     }
-    visit(&header, image, offset, out.len(), |_, _| ())?;
-    visit(&header, image, offset, out.len(), |host, part| match host {
+    visit(header, image, disk, offset..offset + out.len() as u64, |_, _| ())?;
+    visit(header, image, disk, offset..offset + out.len() as u64, |host, part| match host {
         Some(host) => {
             let bytes = &image[host..host + part.len()];
             out[part].copy_from_slice(bytes);
@@ -62,20 +79,21 @@ pub fn read(image: &[u8], offset: u64, out: &mut [u8]) -> Result<(), u32> {
 fn visit(
     header: &Header,
     image: &[u8],
-    offset: u64,
-    len: usize,
+    disk: Disk,
+    range: Range<u64>,
     mut part: impl FnMut(Option<usize>, Range<usize>),
 ) -> Result<(), u32> {
     let rules = Rules::of(header);
     let cluster = header.cluster();
     let reach = (cluster as u64 / 8) << header.cluster_bits;
+    let len = (range.end - range.start) as usize;
     let mut done = 0;
     while done < len {
-        let at = offset + done as u64;
+        let at = range.start + done as u64;
         let (l1_index, l2_index) = header.indices(at >> header.cluster_bits);
         let to_table_end = reach - (at & (reach - 1));
         let stop = done + to_table_end.min((len - done) as u64) as usize;
-        let table = rules.l1(be64(image, header.l1_at + 8 * l1_index)).ok_or(12u32)?;
+        let table = rules.l1(be64(image, disk.l1_at + 8 * l1_index)).ok_or(12u32)?;
         if table == 0 {
             part(None, done..stop);
             done = stop;
@@ -99,7 +117,7 @@ fn visit(
 /// they have room; how many.
 pub fn runs(image: &[u8], offset: u64, len: u64, rows: &mut [u64]) -> Result<usize, u32> {
     let header = Header::judge(image)?;
-    if !header.holds(offset, len) {
+    if !header.disk.holds(offset, len) {
         return Err(11);
     }
     let (mut at, mut left) = (offset, len);
@@ -125,7 +143,7 @@ fn run(header: &Header, image: &[u8], offset: u64, len: u64) -> Run {
     while run.is_none_or(|run| run.length < len) {
         let at = offset + run.map_or(0, |run| run.length);
         let (l1_index, l2_index) = header.indices(at >> header.cluster_bits);
-        let table = match rules.l1(be64(image, header.l1_at + 8 * l1_index)) {
+        let table = match rules.l1(be64(image, header.disk.l1_at + 8 * l1_index)) {
             Some(table) if table != 0 => &image[table..table + header.cluster()],
             none => {
                 let found = if none.is_some() { Found::Absent } else { Found::Refused(12) };

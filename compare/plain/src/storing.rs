@@ -41,7 +41,7 @@ fn write_stores<'a>(
 ) -> Result<List<'a>, u32> {
     let cluster = header.cluster();
     let start = offset as usize & (cluster - 1);
-    if !header.holds(offset, data.len() as u64) || data.len() > cluster - start {
+    if !header.disk.holds(offset, data.len() as u64) || data.len() > cluster - start {
         return Err(11);
     }
     if data.is_empty() {
@@ -49,7 +49,7 @@ fn write_stores<'a>(
     }
     let guest = offset >> header.cluster_bits;
     let whole = |at| Store::Fill { at, len: cluster, start, data };
-    match header.slot(image, guest)? {
+    match header.own_slot(image, guest)? {
         Slot::Entry { mapping: Mapping { place, zeros: false }, .. } if place != 0 => {
             Ok(List::of([Store::Fill { at: place + start, len: data.len(), start: 0, data }]))
         }
@@ -80,10 +80,10 @@ fn write_stores<'a>(
 }
 
 fn discard_stores(header: &Header, image: &[u8], cluster: u64) -> Result<List<'static>, u32> {
-    if cluster >= header.guest_clusters() {
+    if cluster >= header.guest_clusters(header.disk) {
         return Err(11);
     }
-    let Slot::Entry { at, mapping } = header.slot(image, cluster)? else {
+    let Slot::Entry { at, mapping } = header.own_slot(image, cluster)? else {
         return Ok(List::of([]));
     };
     let clear = Store::Entry { at, value: 0 };

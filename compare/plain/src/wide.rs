@@ -1,6 +1,6 @@
 //! Counts of 8, 16, 32 and 64 bits.
 
-use crate::width::{Weighed, Width};
+use crate::width::{Figure, Weighed, Width};
 
 pub(crate) struct Bits8;
 pub(crate) struct Bits16;
@@ -10,13 +10,13 @@ pub(crate) struct Bits64;
 impl Width for Bits8 {
     const ORDER: u32 = 3;
 
-    /// A group's sum has eight bits.
-    fn weigh(block: &[u8], figures: &[u8]) -> Weighed {
+    fn weigh(block: &[u8], figures: &[Figure]) -> Weighed {
         weigh_groups::<_, 128>(&block[..figures.len()], figures, |counts, figures| {
-            let (mut above, mut below) = (0u8, 0u8);
+            let (mut above, mut below) = (0u16, 0u16);
             for (&count, &figure) in counts.iter().zip(figures) {
-                above += u8::from(count > figure);
-                below |= u8::from(count < figure);
+                let (count, figure) = (u16::from(count), u16::from_be_bytes(figure));
+                above += u16::from(count > figure);
+                below += u16::from(count < figure);
             }
             Weighed { above: above.into(), below: below != 0 }
         })
@@ -26,7 +26,7 @@ impl Width for Bits8 {
         first_zero::<_, 512>(&block[from..to], |&count| count == 0).map(|found| from + found)
     }
 
-    fn set(block: &mut [u8], figures: &[u8], units: u64) -> u64 {
+    fn set(block: &mut [u8], figures: &[Figure], units: u64) -> u64 {
         set::<1>(block, figures, units)
     }
 }
@@ -34,14 +34,14 @@ impl Width for Bits8 {
 impl Width for Bits16 {
     const ORDER: u32 = 4;
 
-    fn weigh(block: &[u8], figures: &[u8]) -> Weighed {
+    fn weigh(block: &[u8], figures: &[Figure]) -> Weighed {
         // 16 bits are enough: no block has more than 2^14 counts of clusters,
         // C / 2 or N, whichever is less.
         let (mut above, mut below) = (0u16, 0u16);
-        for (count, &figure) in block.as_chunks().0.iter().zip(figures) {
-            let count = u16::from_be_bytes(*count);
-            above += u16::from(count > u16::from(figure));
-            below += u16::from(count < u16::from(figure));
+        for (&count, &figure) in block.as_chunks().0.iter().zip(figures) {
+            let (count, figure) = (u16::from_be_bytes(count), u16::from_be_bytes(figure));
+            above += u16::from(count > figure);
+            below += u16::from(count < figure);
         }
         Weighed { above: above.into(), below: below != 0 }
     }
@@ -51,27 +51,24 @@ impl Width for Bits16 {
         first_zero::<_, 256>(counts, |count| *count == [0, 0]).map(|found| from + found)
     }
 
-    fn set(block: &mut [u8], figures: &[u8], units: u64) -> u64 {
+    fn set(block: &mut [u8], figures: &[Figure], units: u64) -> u64 {
         set::<2>(block, figures, units)
     }
 }
 
-/// As a figure is 0 or 1, a count that differs and is not 0 is above. Neither
-/// test needs the count's bytes in order: the figure's byte is moved.
 impl Width for Bits32 {
     const ORDER: u32 = 5;
 
-    fn weigh(block: &[u8], figures: &[u8]) -> Weighed {
+    fn weigh(block: &[u8], figures: &[Figure]) -> Weighed {
         let counts = &block.as_chunks().0[..figures.len()];
         weigh_groups::<_, 64>(counts, figures, |counts, figures| {
-            let (mut differ, mut below) = (0u32, 0u32);
+            let (mut above, mut below) = (0u32, 0u32);
             for (&count, &figure) in counts.iter().zip(figures) {
-                let count = u32::from_ne_bytes(count);
-                let differs = u32::from(count != u32::from(figure).to_be());
-                differ += differs;
-                below += differs & u32::from(count == 0);
+                let (count, figure) = (u32::from_be_bytes(count), figure_32(figure));
+                above += u32::from(count > figure);
+                below += u32::from(count < figure);
             }
-            Weighed { above: (differ - below).into(), below: below != 0 }
+            Weighed { above: above.into(), below: below != 0 }
         })
     }
 
@@ -80,25 +77,25 @@ impl Width for Bits32 {
         first_zero::<_, 128>(counts, |count| *count == [0; 4]).map(|found| from + found)
     }
 
-    fn set(block: &mut [u8], figures: &[u8], units: u64) -> u64 {
+    fn set(block: &mut [u8], figures: &[Figure], units: u64) -> u64 {
         set::<4>(block, figures, units)
     }
 }
 
-/// The same with counts in halves, which are quicker to compare.
+/// Counts in halves, which are quicker to compare.
 impl Width for Bits64 {
     const ORDER: u32 = 6;
 
-    fn weigh(block: &[u8], figures: &[u8]) -> Weighed {
+    fn weigh(block: &[u8], figures: &[Figure]) -> Weighed {
         weigh_groups::<_, 32>(&halves(block)[..figures.len()], figures, |counts, figures| {
-            let (mut differ, mut below) = (0u32, 0u32);
+            let (mut above, mut below) = (0u32, 0u32);
             for (&[upper, lower], &figure) in counts.iter().zip(figures) {
-                let (upper, lower) = (u32::from_ne_bytes(upper), u32::from_ne_bytes(lower));
-                let differs = u32::from(upper | lower ^ u32::from(figure).to_be() != 0);
-                differ += differs;
-                below += differs & u32::from(upper | lower == 0);
+                let (lower, figure) = (u32::from_be_bytes(lower), figure_32(figure));
+                let small = u32::from(upper == [0; 4]);
+                above += 1 - (small & u32::from(lower <= figure));
+                below += small & u32::from(lower < figure);
             }
-            Weighed { above: (differ - below).into(), below: below != 0 }
+            Weighed { above: above.into(), below: below != 0 }
         })
     }
 
@@ -109,9 +106,13 @@ impl Width for Bits64 {
         first_zero::<_, 64>(&halves(block)[from..to], zero).map(|found| from + found)
     }
 
-    fn set(block: &mut [u8], figures: &[u8], units: u64) -> u64 {
+    fn set(block: &mut [u8], figures: &[Figure], units: u64) -> u64 {
         set::<8>(block, figures, units)
     }
+}
+
+fn figure_32(figure: Figure) -> u32 {
+    u16::from_be_bytes(figure).into()
 }
 
 fn halves(block: &[u8]) -> &[[[u8; 4]; 2]] {
@@ -123,8 +124,8 @@ fn halves(block: &[u8]) -> &[[[u8; 4]; 2]] {
 #[inline]
 fn weigh_groups<T, const GROUP: usize>(
     counts: &[T],
-    figures: &[u8],
-    weigh: impl Fn(&[T], &[u8]) -> Weighed,
+    figures: &[Figure],
+    weigh: impl Fn(&[T], &[Figure]) -> Weighed,
 ) -> Weighed {
     let (figures, figures_left) = figures.as_chunks::<GROUP>();
     let (counts, counts_left) = counts.as_chunks::<GROUP>();
@@ -149,11 +150,12 @@ fn first_zero<T, const GROUP: usize>(counts: &[T], zero: impl Fn(&T) -> bool) ->
     Some(GROUP * groups.len() + rest.iter().position(zero)?)
 }
 
-fn set<const BYTES: usize>(block: &mut [u8], figures: &[u8], units: u64) -> u64 {
+fn set<const BYTES: usize>(block: &mut [u8], figures: &[Figure], units: u64) -> u64 {
     let mut done = 0;
-    for (count, &figure) in block.as_chunks_mut::<BYTES>().0.iter_mut().zip(figures) {
+    for (count, figure) in block.as_chunks_mut::<BYTES>().0.iter_mut().zip(figures) {
         let mut wanted = [0; BYTES];
-        wanted[BYTES - 1] = figure;
+        let own = BYTES.min(figure.len());
+        wanted[BYTES - own..].copy_from_slice(&figure[figure.len() - own..]);
         if *count != wanted {
             if done == units {
                 break;

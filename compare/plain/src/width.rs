@@ -4,6 +4,9 @@ use crate::cell::Cell;
 use crate::narrow::{Bits1, Bits2, Bits4};
 use crate::wide::{Bits16, Bits32, Bits64, Bits8};
 
+/// A cluster's references in the scratch, big-endian.
+pub(crate) type Figure = [u8; 2];
+
 /// Counts beside their figures: how many are above, and whether any is below.
 #[derive(Clone, Copy, Default)]
 pub(crate) struct Weighed {
@@ -18,15 +21,15 @@ pub(crate) const GROUP: usize = 512;
 pub(crate) trait Width {
     const ORDER: u32;
 
-    /// Weighs the block's first counts against figures of 0 and 1.
-    fn weigh(block: &[u8], figures: &[u8]) -> Weighed;
+    /// Weighs the block's first counts against the figures.
+    fn weigh(block: &[u8], figures: &[Figure]) -> Weighed;
 
     /// The first of counts `from` to `to` that is 0.
     fn first_zero(block: &[u8], from: usize, to: usize) -> Option<usize>;
 
-    /// Sets the block's first counts to the figures, until `units` of them were
-    /// not equal; how many were not.
-    fn set(block: &mut [u8], figures: &[u8], units: u64) -> u64;
+    /// Sets the block's first counts to the figures, which are not above them,
+    /// until `units` of them were not equal; how many were not.
+    fn set(block: &mut [u8], figures: &[Figure], units: u64) -> u64;
 
     #[inline]
     fn count(block: &[u8], index: usize) -> u64 {
@@ -34,12 +37,12 @@ pub(crate) trait Width {
     }
 
     /// The same counts one by one, for what is left of a block.
-    fn weigh_each(block: &[u8], first: usize, figures: &[u8]) -> Weighed {
+    fn weigh_each(block: &[u8], first: usize, figures: &[Figure]) -> Weighed {
         let mut weighed = Weighed::default();
         for (index, &figure) in figures.iter().enumerate() {
-            let count = Self::count(block, first + index);
-            weighed.above += u64::from(count > u64::from(figure));
-            weighed.below |= count < u64::from(figure);
+            let (count, figure) = (Self::count(block, first + index), u16::from_be_bytes(figure));
+            weighed.above += u64::from(count > figure.into());
+            weighed.below |= count < figure.into();
         }
         weighed
     }

@@ -72,10 +72,10 @@ fn figures_one_by_one() {
     assert_eq!(discard(&mut again(&image), 65, ALL), Outcome::Finished(3));
     let mut leaking = again(&image);
     leaking[1024 + 2 * 9 + 1] = 1;
-    assert_eq!(repair(&mut leaking.clone(), &mut [0; 16], 1), Outcome::Stopped(1));
-    assert_eq!(repair(&mut leaking, &mut [0; 16], ALL), Outcome::Finished(2));
+    assert_eq!(repair(&mut leaking.clone(), &mut [0; 32], 1), Outcome::Stopped(1));
+    assert_eq!(repair(&mut leaking, &mut [0; 32], ALL), Outcome::Finished(2));
     assert_eq!(leaking, image);
-    assert_eq!(check(&leaking, &mut [0; 16]), Verdict::Sound);
+    assert_eq!(check(&leaking, &mut [0; 32]), Verdict::Sound);
 }
 
 /// An empty list and a refusal leave the bits.
@@ -85,14 +85,14 @@ fn nothing_to_store() {
     let mut image = made.bytes.clone();
     assert_eq!(write(&mut image, 0, &[], ALL), Outcome::Finished(0));
     assert_eq!(discard(&mut image, 127, ALL), Outcome::Finished(0));
-    assert_eq!(repair(&mut image, &mut [0; 16], ALL), Outcome::Finished(0));
+    assert_eq!(repair(&mut image, &mut [0; 32], ALL), Outcome::Finished(0));
     assert_eq!(write(&mut image, 510, &[1; 3], ALL), Outcome::Refused(11));
     assert_eq!(discard(&mut image, 128, ALL), Outcome::Refused(11));
-    assert_eq!(repair(&mut image, &mut [0; 15], ALL), Outcome::Refused(15));
+    assert_eq!(repair(&mut image, &mut [0; 31], ALL), Outcome::Refused(15));
     assert_eq!(image, made.bytes);
     image[1024 + 3] = 0;
     let damaged = image.clone();
-    assert_eq!(repair(&mut image, &mut [0; 16], ALL), Outcome::Refused(17));
+    assert_eq!(repair(&mut image, &mut [0; 32], ALL), Outcome::Refused(17));
     assert_eq!(image, damaged);
 }
 

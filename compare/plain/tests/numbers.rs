@@ -9,7 +9,8 @@ use made::longest;
 use made::plan::{bench_image, Plan};
 use made::rng::Rng;
 use plain::{
-    check, discard, lookup, read, repair, runs, translate, write, Found, Outcome, Verdict,
+    check, discard, lookup, read, read_snapshot, repair, runs, translate, write, Found, Outcome,
+    Verdict,
 };
 
 /// Every call refuses the image with this number and changes nothing.
@@ -19,6 +20,7 @@ fn all_refuse(made: &mut Made, number: u32) {
     let (mut scratch, mut out, mut numbers) = ([7; 3], [7; 3], [7; 3]);
     assert_eq!(translate(image, u64::MAX), Found::Refused(number));
     assert_eq!(read(image, u64::MAX, &mut out), Err(number));
+    assert_eq!(read_snapshot(image, u64::MAX, u64::MAX, &mut out), Err(number));
     assert!(lookup(image, 0).is_empty());
     assert_eq!(runs(image, u64::MAX, u64::MAX, &mut numbers), Err(number));
     assert_eq!(write(image, u64::MAX, &out, 9), Outcome::Refused(number));
@@ -49,7 +51,7 @@ fn breaks() {
 }
 
 fn refusal(image: &[u8]) -> u32 {
-    match check(image, &mut vec![0; image.len() / 512 + 1]) {
+    match check(image, &mut vec![0; image.len() / 256 + 1]) {
         Verdict::Refused(number) => number,
         _ => 0,
     }
@@ -73,6 +75,16 @@ fn edges() {
         k += 1;
     });
     assert!(k > 400, "{k} edges");
+}
+
+#[test]
+fn snapshot_edges() {
+    let mut k = 0;
+    made::snapshot_edges::each(|image, number| {
+        assert_eq!(refusal(image), number, "edge {k}");
+        k += 1;
+    });
+    assert!(k > 200, "{k} edges");
 }
 
 #[test]
@@ -123,7 +135,7 @@ fn partial_cluster() {
 #[test]
 fn order_after_ten() {
     let mut made = bench_image();
-    let mut scratch = [7; 16];
+    let mut scratch = [7; 32];
     made.put64(made.l1_at, 1);
     let image = &mut made.bytes;
     // 11 before the entry, a length of 0 looks at none, 15 before the verdict.
@@ -136,9 +148,10 @@ fn order_after_ten() {
     assert_eq!(write(image, 0, &[], 0), Outcome::Finished(0));
     assert_eq!(write(image, 0, &[1], 0), Outcome::Refused(12));
     assert_eq!(discard(image, 63, 0), Outcome::Refused(12));
-    assert_eq!(check(image, &mut scratch[..15]), Verdict::Refused(15));
-    assert_eq!(repair(image, &mut scratch[..15], 0), Outcome::Refused(15));
-    assert_eq!(scratch, [7; 16]);
+    assert_eq!(check(image, &mut scratch[..31]), Verdict::Refused(15));
+    assert_eq!(repair(image, &mut scratch[..31], 0), Outcome::Refused(15));
+    assert_eq!(scratch, [7; 32]);
     assert_eq!(repair(image, &mut scratch, 0), Outcome::Refused(17));
-    assert_eq!(scratch, [1, 1, 1, 1, 0, 0, 0, 0, 0, 0, 0, 0, 0, 0, 0, 0]);
+    assert_eq!(scratch[..10], [0, 1, 0, 1, 0, 1, 0, 1, 0, 0]);
+    assert_eq!(scratch[10..], [0; 22]);
 }

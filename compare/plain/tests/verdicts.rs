@@ -2,16 +2,21 @@
 #![forbid(unsafe_code)]
 
 use made::damage::bad_entry;
-use made::drive::sound;
+use made::drive::{sound, without_snapshots};
 use made::image::{Made, AUTOCLEAR, USED};
-use made::plan::bench_image;
+use made::plan::{bench_image, Plan};
 use made::rng::Rng;
 use plain::{check, difference, repair, translate, Found, Outcome, Verdict};
 
 const IMAGES: usize = 600;
 
 fn verdict(made: &Made) -> Verdict {
-    check(&made.bytes, &mut vec![7; made.clusters()])
+    check(&made.bytes, &mut vec![7; made.scratch()])
+}
+
+/// A cluster's references in the scratch.
+fn figure(scratch: &[u8], cluster: usize) -> u16 {
+    u16::from_be_bytes([scratch[2 * cluster], scratch[2 * cluster + 1]])
 }
 
 #[test]
@@ -21,12 +26,12 @@ fn made_images_are_sound() {
     for _ in 0..IMAGES {
         let made = sound(&mut rng);
         partial += usize::from(!made.size.is_multiple_of(made.cluster() as u64));
-        let mut scratch = vec![7; made.clusters() + 3];
+        let mut scratch = vec![7; made.scratch() + 3];
         assert_eq!(check(&made.bytes, &mut scratch), Verdict::Sound);
-        for (cluster, &figure) in scratch[..made.clusters()].iter().enumerate() {
-            assert_eq!(u64::from(figure), made.count(cluster));
+        for cluster in 0..made.clusters() {
+            assert_eq!(u64::from(figure(&scratch, cluster)), made.count(cluster));
         }
-        assert_eq!(scratch[made.clusters()..], [7; 3]);
+        assert_eq!(scratch[made.scratch()..], [7; 3]);
     }
     assert!(partial > IMAGES / 6, "{partial} disks end inside a cluster");
 }
@@ -64,7 +69,7 @@ fn leaks() {
         // Cut, the counts of the lowest clusters are set.
         let units = made.clearing() + leaks;
         let mut cut = made.clone();
-        let scratch = &mut vec![7; made.clusters()];
+        let scratch = &mut vec![7; made.scratch()];
         assert_eq!(repair(&mut cut.bytes, scratch, units - 1), Outcome::Stopped(units - 1));
         let last = raised[raised.len() - 1];
         assert_eq!(cut.count(last), made.count(last));
@@ -100,7 +105,7 @@ fn bad_entries() {
         assert_eq!(verdict(&made), Verdict::BadL1(l1), "{entry:x}");
         let number = if offset < made.size { 12 } else { 11 };
         assert_eq!(translate(&made.bytes, offset), Found::Refused(number), "{entry:x}");
-        let scratch = &mut vec![7; made.clusters()];
+        let scratch = &mut vec![7; made.scratch()];
         assert_eq!(repair(&mut made.bytes, scratch, 0), Outcome::Refused(17));
     }
 }
@@ -109,7 +114,8 @@ fn bad_entries() {
 fn shared_and_short() {
     let mut rng = Rng::from_env("shared and short", 14);
     for _ in 0..IMAGES {
-        let mut made = sound(&mut rng);
+        let plan = Plan::random(&mut rng);
+        let mut made = without_snapshots(plan, &mut rng);
         let used: Vec<usize> = (0..made.clusters()).filter(|&k| made.count(k) != 0).collect();
         let mut gone = made.clone();
         let short = rng.pick(&used);
@@ -128,14 +134,14 @@ fn shared_and_short() {
         assert_eq!(verdict(&made), Verdict::Shared(shared as u64));
         // A shared cluster comes before a short one, whatever their order.
         made.set_count(short, 0);
-        let scratch = &mut vec![7; made.clusters()];
+        let scratch = &mut vec![7; made.scratch()];
         assert_eq!(check(&made.bytes, scratch), Verdict::Shared(shared as u64));
-        assert_eq!(scratch[shared], 2);
+        assert_eq!(figure(scratch, shared), 2);
     }
 }
 
-/// Bad entries count for nothing and the counting goes on past them; a figure
-/// stays at 2; an L2 table counts for each L1 entry that names it.
+/// Bad entries count for nothing and the counting goes on past them; an L2 table
+/// counts for each L1 entry that names it.
 #[test]
 fn figures() {
     let mut made = bench_image();
@@ -145,9 +151,10 @@ fn figures() {
         made.put64(table + 8 * l2_index, entry);
     }
     made.put64(made.l1_at, 1);
-    let scratch = &mut [7; 18];
+    let scratch = &mut [7; 34];
     assert_eq!(check(&made.bytes, scratch), Verdict::BadL1(0));
-    assert_eq!(scratch, &[1, 1, 1, 1, 1, 0, 0, 0, 0, 2, 0, 0, 0, 0, 0, 0, 7, 7]);
+    let figures: Vec<u16> = (0..17).map(|cluster| figure(scratch, cluster)).collect();
+    assert_eq!(figures, [1, 1, 1, 1, 1, 0, 0, 0, 0, 4, 0, 0, 0, 0, 0, 0, 0x0707]);
     made.put64(made.l1_at, 0);
     assert_eq!(check(&made.bytes, scratch), Verdict::BadL2(1, 1));
     made.put64(table + 8, 0);
@@ -158,12 +165,13 @@ fn figures() {
     assert_eq!(check(&made.bytes, scratch), Verdict::Short(9));
     made.put64(made.l1_at, USED | table as u64);
     assert_eq!(check(&made.bytes, scratch), Verdict::Shared(4));
-    assert_eq!((scratch[4], scratch[9]), (2, 2));
+    assert_eq!((figure(scratch, 4), figure(scratch, 9)), (2, 2));
 }
 
 #[test]
 fn differences() {
     assert_eq!(difference(0, 2), -2);
+    assert_eq!(difference(0, 65_535), -65_535);
     assert_eq!(difference(65_535, 0), 65_535);
     assert_eq!(difference(1, 1), 0);
 }

@@ -12,7 +12,7 @@ const ALL: u64 = u64::MAX;
 const BLOCK: usize = 1024;
 
 fn verdict(made: &Made) -> Verdict {
-    check(&made.bytes, &mut vec![7; made.clusters()])
+    check(&made.bytes, &mut vec![7; made.scratch()])
 }
 
 #[test]
@@ -140,7 +140,7 @@ fn leaks() {
             let mut made = sound.clone();
             made.set_count(cluster, count);
             assert_eq!(verdict(&made), Verdict::Leaks(1), "{count} of {cluster}");
-            let outcome = repair(&mut made.bytes, &mut [7; 16], ALL);
+            let outcome = repair(&mut made.bytes, &mut [7; 32], ALL);
             assert_eq!(outcome, Outcome::Finished(1));
             assert!(made.bytes == sound.bytes);
         }
@@ -200,13 +200,14 @@ fn short_and_shared() {
         assert_eq!(verdict(&made), Verdict::Short(3));
         made.set_count(1, 0);
         assert_eq!(verdict(&made), Verdict::Short(1));
-        assert_eq!(repair(&mut made.bytes, &mut [7; 16], ALL), Outcome::Refused(17));
-        // An L1 entry that names the L1 table: two references, whatever the count.
+        assert_eq!(repair(&mut made.bytes, &mut [7; 32], ALL), Outcome::Refused(17));
+        // An L1 entry that names the L1 table, and is its own L2 entry: three
+        // references, whatever the count.
         made.put64(made.l1_at, USED | made.l1_at as u64);
         made.set_count(3, made.most());
-        let mut scratch = [7; 16];
+        let mut scratch = [7; 32];
         assert_eq!(check(&made.bytes, &mut scratch), Verdict::Shared(3));
-        assert_eq!(scratch[3], 2);
+        assert_eq!(scratch[6..8], [0, 3]);
     }
 }
 
@@ -215,6 +216,11 @@ fn differences() {
     for (stored, figure, wanted) in [
         (0, 0, 0),
         (0, 2, -2),
+        (0, 65_535, -65_535),
+        (65_534, 65_535, -1),
+        (65_535, 65_535, 0),
+        (131_070, 65_535, 65_535),
+        (131_071, 65_535, 65_535),
         (1, 2, -1),
         (65_535, 0, 65_535),
         (65_535, 1, 65_534),

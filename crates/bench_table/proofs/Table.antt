@@ -1,6 +1,6 @@
 -- The bench image's table, proved by computation: `quick` stores a fill in one pass and leaves the same image.
 -- Assumes nothing.
-use Prim.Native.Nat.{ℕ, zero, suc}
+use Prim.Native.Nat.{ℕ, zero, suc, _*_}
 use mathlib.Core.Bool.{true}
 use mathlib.Core.Path.{_≡_, refl, subst, fun-ext}
 use mathlib.Core.List.{List, [], _∷_}
@@ -13,15 +13,15 @@ use Rattle.endian.specs.Big.{be16, be32, be64, bytes16, bytes32, bytes64, entri
 use Rattle.widths.specs.Width.{be, bytes, span, field, merge, number, stored}
 use Rattle.units.specs.Units.{apply, applyAll, fill, cluster}
 use Rattle.units.specs.Plan.{Plan, planUnits, planNumber, after}
-use Rattle.tally.specs.Tally.{run, occurrences, figures, twice}
-use Rattle.qcow2_spec.specs.Header.{version, clusterSize, clusters, diskSize, l1Size, l1At, tableAt, tableClusters, countOrder, width, perBlock, blocks, perTable, table, blockAt, goodBlock, goodTable, unsupported, tooBig, oddSize, badTables, headerNumber, tableNumber, judge, autoclear}
-use Rattle.qcow2_spec.specs.Entries.{place, goodPlace, goodL1, goodL2, compressed, zeroMark, newEntry}
+use Rattle.tally.specs.Tally.{run, occurrences, figures}
+use Rattle.qcow2_spec.specs.Header.{version, clusterSize, clusters, diskSize, l1Size, l1At, tableAt, tableClusters, countOrder, width, perBlock, blocks, perTable, table, blockAt, goodBlock, goodTable, unsupported, tooBig, oddSize, badTables, headerNumber, tableNumber, snapshots, snapshotsAt, entryEnd, snapshotAt, roots, rootSize, rootAt, badSnapshot, snapshotNumber, judge, autoclear}
+use Rattle.qcow2_spec.specs.Entries.{place, alone, goodPlace, common, goodL1, goodL2, compressed, zeroMark, newEntry}
 use Rattle.qcow2_spec.specs.Counts.{countAt, countOf, setCount, freeAt, freeFrom, free}
-use Rattle.qcow2_spec.specs.Guest.{l1EntryAt, l1Entry, entryWay, l2Way, way, entryGives, wayGives, located, translate, foundByte, guestByte, guestBytes, wayNumber, waysNumber, outside, touched, readNumber}
+use Rattle.qcow2_spec.specs.Guest.{l1EntryAt, l1Entry, entryWay, l2Way, way, entryGives, wayGives, located, translate, foundByte, guestByte, guestBytes, wayNumber, waysNumber, reach, outside, touched, readNumber}
 use Rattle.qcow2_spec.specs.Runs.{sameFound, goesOn, runLength, runRow, runRows, runsNumber, listRuns}
-use Rattle.qcow2_spec.specs.Store.{clearUnits, clearing, judged, allot, writeNew, writeTable, writeSlot, writeWay, writePlan, discardSlot, discardWay, discardPlan}
-use Rattle.qcow2_spec.specs.References.{l1Entries, l2Entries, named, l2Refs, tableRefs, l1Refs, fixedRefs, references, figuresOf}
-use Rattle.qcow2_spec.specs.Check.{l2Verdict, entryVerdict, l1Verdict, short, over, countsVerdict, verdict, repairUnits, verdictPlan, repairPlan, check}
+use Rattle.qcow2_spec.specs.Store.{ownSlot, ownWay, clearUnits, clearing, judged, allot, writeNew, writeTable, writeSlot, writeWay, writePlan, discardSlot, discardWay, discardPlan}
+use Rattle.qcow2_spec.specs.References.{l1Entries, l2Entries, named, l2Refs, tableRefs, l1Refs, rootRun, snapshotRun, fixedRefs, rootRefs, tablesIn, dataIn, references, figuresOf}
+use Rattle.qcow2_spec.specs.Check.{l2Verdict, entryVerdict, l1Verdict, badIn, rootsVerdict, rightMark, wrongMarks, sharedBy, sharedAt, short, over, countsVerdict, verdict, repairUnits, verdictPlan, repairPlan, check}
 use Rattle.qcow2_spec.specs.Series.{Healthy, Call, AllBytes, Agrees, Holds}
 use Rattle.qcow2_spec.proofs.Series.{demand3}
 use Rattle.bench_table.specs.Bench.{header, body, benchWith, bench, marked, widthed, oneBit, twoBits, fourBits, eightBits, wideBits, widestBits}
@@ -30,7 +30,7 @@ use Rattle.bench_table.proofs.Quick.{quick, quick-ok}
 
 -- what an example computes with
 unfoldable computing : Unit {0}
-unfolding be16 be32 be64 bytes16 bytes32 bytes64 entries be bytes span field merge number stored version clusterSize clusters diskSize l1Size l1At tableAt tableClusters countOrder width perBlock blocks perTable table blockAt goodBlock goodTable unsupported tooBig oddSize badTables headerNumber tableNumber judge countAt countOf freeAt freeFrom place goodPlace goodL1 goodL2 compressed zeroMark l1EntryAt l1Entry way entryWay l2Way entryGives wayGives located translate foundByte guestByte guestBytes wayNumber waysNumber outside touched readNumber sameFound goesOn runLength runRow runRows runsNumber listRuns apply applyAll setCount fill cluster newEntry autoclear clearUnits clearing judged allot writeNew writeTable writeSlot writeWay writePlan discardSlot discardWay discardPlan planUnits planNumber after run l1Entries l2Entries named l2Refs tableRefs l1Refs fixedRefs references occurrences figures twice figuresOf short over l2Verdict entryVerdict l1Verdict countsVerdict verdict free repairUnits verdictPlan repairPlan header body benchWith bench marked widthed oneBit twoBits fourBits eightBits wideBits widestBits quick cost filled write written turned stale writtenTo
+unfolding be16 be32 be64 bytes16 bytes32 bytes64 entries be bytes span field merge number stored version clusterSize clusters diskSize l1Size l1At tableAt tableClusters countOrder width perBlock blocks perTable table blockAt goodBlock goodTable unsupported tooBig oddSize badTables headerNumber tableNumber snapshots snapshotsAt entryEnd snapshotAt roots rootSize rootAt badSnapshot snapshotNumber judge countAt countOf freeAt freeFrom place alone goodPlace common goodL1 goodL2 compressed zeroMark l1EntryAt l1Entry way entryWay l2Way entryGives wayGives located translate foundByte guestByte guestBytes wayNumber waysNumber reach outside touched readNumber apply applyAll setCount fill cluster newEntry autoclear ownSlot ownWay clearUnits clearing judged allot writeNew writeTable writeSlot writeWay writePlan discardSlot discardWay discardPlan planUnits planNumber after run l1Entries l2Entries named l2Refs tableRefs l1Refs rootRun snapshotRun fixedRefs rootRefs tablesIn dataIn references occurrences figures figuresOf short over l2Verdict entryVerdict l1Verdict badIn rootsVerdict rightMark wrongMarks sharedBy sharedAt countsVerdict verdict free repairUnits verdictPlan repairPlan header body benchWith bench marked widthed oneBit twoBits fourBits eightBits quick cost filled write written sameFound goesOn runLength runRow runRows runsNumber listRuns wideBits widestBits turned stale writtenTo
 computing = tt
 
 quick-stored : (a b c d e x y z : ℕ) → Stored quick (a ∷ b ∷ c ∷ d ∷ e ∷ []) x y z
@@ -156,9 +156,9 @@ bench-bytes : all (λ b. ltb b 256) bench ≡ true
 unfolding computing
 bench-bytes = refl
 
-bench-healthy : Healthy (check bench (clusters bench))
+bench-healthy : Healthy (check bench (2 * clusters bench))
 unfolding computing check Healthy
 bench-healthy = tt
 
-pub bench-series : (calls : List Call) → AllBytes calls → Agrees bench bench (guestByte bench) × Holds bench bench (guestByte bench) calls
+pub bench-series : (calls : List Call) → AllBytes calls → Agrees bench bench (guestByte bench 0) × Holds bench bench (guestByte bench 0) calls
 bench-series calls sm = demand3 bench (λ i. ltb-true (getD bench i 0) 256 (each-byte bench bench-bytes i)) bench-healthy calls sm

@@ -43,7 +43,7 @@ pub record Stored (store : Plan → ℕ → List ℕ → List ℕ) (five : List 
   pub bytes : part (written store five 1028) 2565 5 ≡ five
   pub left : free (written store five 1028) ≡ 10
   pub whole : verdict (written store five 1028) ≡ Sound
-  pub reads : guestBytes (written store five 1028) 33285 5 ≡ five
+  pub reads : guestBytes (written store five 1028) 0 33285 5 ≡ five
 
 -- what a power cut before the data count leaves
 pub record CutEarly (store : Plan → ℕ → List ℕ → List ℕ) (five : List ℕ) (x y z : ℕ) : Type 0 where
@@ -59,8 +59,8 @@ pub record CutLate (store : Plan → ℕ → List ℕ → List ℕ) (five : List
 
 -- the repair after 1,027 units
 pub record Repaired (store : Plan → ℕ → List ℕ → List ℕ) (five : List ℕ) (x y z : ℕ) : Type 0 where
-  pub repair-cost : cost (repairPlan (written store five 1027) 16) ≡ 2
-  pub repair-left : free (store (repairPlan (written store five 1027) 16) 2 (written store five 1027)) ≡ 12
+  pub repair-cost : cost (repairPlan (written store five 1027) 32) ≡ 2
+  pub repair-left : free (store (repairPlan (written store five 1027) 32) 2 (written store five 1027)) ≡ 12
 
 -- calls after the whole write
 pub record Next (store : Plan → ℕ → List ℕ → List ℕ) (five : List ℕ) (x y z : ℕ) : Type 0 where
@@ -80,9 +80,9 @@ pub record Full (store : Plan → ℕ → List ℕ → List ℕ) (five : List �
 
 -- ranges at their ends
 pub record Edges (store : Plan → ℕ → List ℕ → List ℕ) (five : List ℕ) (x y z : ℕ) : Type 0 where
-  pub read-none : readNumber bench 65536 0 ≡ 0
-  pub read-one : readNumber bench 65536 1 ≡ 11
-  pub read-past : readNumber bench 65537 0 ≡ 11
+  pub read-none : readNumber bench 0 65536 0 ≡ 0
+  pub read-one : readNumber bench 0 65536 1 ≡ 11
+  pub read-past : readNumber bench 0 65537 0 ≡ 11
   pub write-two : planNumber (writePlan bench 510 (x ∷ y ∷ [])) ≡ 0
   pub write-three : planNumber (writePlan bench 510 (x ∷ y ∷ z ∷ [])) ≡ 11
 
@@ -95,7 +95,7 @@ pub record Cleared (store : Plan → ℕ → List ℕ → List ℕ) (five : List
   pub clear-all : store (writePlan (marked 3) 33285 five) 1029 (marked 3) ≡ written store five 1028
   pub no-bytes : planUnits (writePlan (marked 3) 33285 []) ≡ []
   pub no-cluster : planUnits (discardPlan (marked 3) 65) ≡ []
-  pub no-leak : planUnits (repairPlan (marked 3) 16) ≡ []
+  pub no-leak : planUnits (repairPlan (marked 3) 32) ≡ []
   pub version-2 : cost (writePlan (marked 2) 33285 five) ≡ 1028
 
 -- the image with guest clusters 64 and 65 in host clusters 6 and 5, and with bit 0 set in the entry of cluster 65
@@ -107,14 +107,14 @@ stale store five = sets (written store five 1028) 2063 (1 ∷ [])
 
 -- runs of guest bytes: their kind, host offset and length
 pub record Runs (store : Plan → ℕ → List ℕ → List ℕ) (five : List ℕ) (x y z : ℕ) : Type 0 where
-  pub none : listRuns bench 65536 0 2 ≡ Rows 0
-  pub past : listRuns bench 65536 1 2 ≡ Refused 11
-  pub last : listRuns bench 65533 3 2 ≡ Rows 1
-  pub absent : runRows bench 65533 3 2 ≡ 1003 ∷ 0 ∷ 3 ∷ []
-  pub begins : runRows (written store five 1028) 33278 4 2 ≡ 1003 ∷ 0 ∷ 2 ∷ 0 ∷ 2560 ∷ 2 ∷ []
-  pub apart : runRows (turned store five x) 33278 4 2 ≡ 0 ∷ 3582 ∷ 2 ∷ 0 ∷ 2560 ∷ 2 ∷ []
-  pub no-room : runRows (turned store five x) 33278 4 1 ≡ 0 ∷ 3582 ∷ 2 ∷ []
-  pub marks : runRows (stale store five) 33790 4 2 ≡ 1002 ∷ 0 ∷ 2 ∷ 1003 ∷ 0 ∷ 2 ∷ []
+  pub none : listRuns bench 0 65536 0 2 ≡ Rows 0
+  pub past : listRuns bench 0 65536 1 2 ≡ Refused 11
+  pub last : listRuns bench 0 65533 3 2 ≡ Rows 1
+  pub absent : runRows bench 0 65533 3 2 ≡ 1003 ∷ 0 ∷ 3 ∷ []
+  pub begins : runRows (written store five 1028) 0 33278 4 2 ≡ 1003 ∷ 0 ∷ 2 ∷ 0 ∷ 2560 ∷ 2 ∷ []
+  pub apart : runRows (turned store five x) 0 33278 4 2 ≡ 0 ∷ 3582 ∷ 2 ∷ 0 ∷ 2560 ∷ 2 ∷ []
+  pub no-room : runRows (turned store five x) 0 33278 4 1 ≡ 0 ∷ 3582 ∷ 2 ∷ []
+  pub marks : runRows (stale store five) 0 33790 4 2 ≡ 1002 ∷ 0 ∷ 2 ∷ 1003 ∷ 0 ∷ 2 ∷ []
 
 -- an image with counts of some width after the write of five bytes, cut after a units
 unfoldable pub writtenTo : (Plan → ℕ → List ℕ → List ℕ) → List ℕ → (s : List ℕ) → ℕ → List ℕ
@@ -127,7 +127,7 @@ pub record Widths (store : Plan → ℕ → List ℕ → List ℕ) (five : List 
   pub one-first : getD (writtenTo store five oneBit 513) 1024 0 ≡ 31
   pub one-both : getD (writtenTo store five oneBit 1028) 1024 0 ≡ 63
   pub one-cut : verdict (writtenTo store five oneBit 514) ≡ Leaks 2
-  pub one-mended : getD (store (repairPlan (writtenTo store five oneBit 514) 16) 2 (writtenTo store five oneBit 514)) 1024 0 ≡ 15
+  pub one-mended : getD (store (repairPlan (writtenTo store five oneBit 514) 32) 2 (writtenTo store five oneBit 514)) 1024 0 ≡ 15
   pub one-whole : verdict (writtenTo store five oneBit 1028) ≡ Sound
   pub one-freed : getD (store (discardPlan (writtenTo store five oneBit 1028) 65) 2 (writtenTo store five oneBit 1028)) 1024 0 ≡ 31
   pub two-sound : verdict twoBits ≡ Sound

@@ -10,19 +10,20 @@ use native.Mathlib.Omega.{arith}
 use lib.ListN.{length, set}
 use lib.Seq.{sets, length-sets}
 use lib.Pow.{pow-lt}
-use Rattle.cuts.proofs.Refs.{hit, hit-self, hit-zero, refs, refs-same, refs-entry, refs-fix, free-tab, dat-tab}
+use Rattle.cuts.proofs.Refs.{hit, hit-self, hit-zero, refs-fix, free-fix, free-tab, tab-fix, tab-dat}
 use Rattle.cuts.proofs.Cell.{enc, length-enc, small-enc, recell, length-recell, small-recell, cell-small, Small, Stored, stored, mem}
-use Rattle.cuts.proofs.Meta.{Geo, GeoOk, Codec, cell-in, rt, blk, cnt, fix, tab, dat, refsOf, Sound, Keep, dat-none, keep-sound, blk-0, fix-blk}
-use Rattle.cuts.proofs.Step.{shown, gread, gread-none, Quiet, tab-in, dat-in, fix-one, free-not-0, quiet-sound, free-step, count-step, fix-same, entry-rt, entry-blk, entry-tab, entry-cnt, entry-dat, entry-dat-new, entry-sound, entry-reads, entry-read}
+use Rattle.cuts.proofs.Meta.{Geo, GeoOk, Codec, cell-in, rt, blk, cnt, row, col, fix, tab, dat, refsOf, Sound, Keep, dat-none, keep-sound, blk-0, blk-l1, fix-blk, fix-l1}
+use Rattle.cuts.proofs.Step.{shown, gread, gread-none, Quiet, tab-in, dat-in, fix-one, free-not-0, quiet-sound, free-step, count-step, entry-rt, entry-blk, entry-cnt, entry-dat-new, entry-refs, entry-sound, entry-reads, entry-read}
 use Rattle.cuts.proofs.Run.{Store, apply, Run, run-none, run-cons}
 
--- m0 is the first image: the header, but for its idle bytes, and the refcount table stay what they were there
+-- m0 is the first image: the header, but for its idle bytes, the refcount table and the snapshots' directory stay what they were there
 pub record Ok (g : Geo) (K : Codec) (m0 : ℕ → ℕ → ℕ) (img : List ℕ) : Type 0 where
   pub len : length img ≡ g .N * g .C
   pub small : Small img
   pub sound : Sound g K (mem (g .C) img)
   pub head : (x : ℕ) → x < g .C → (x < g .idle) ⊎ (g .busy ≤ x) → mem (g .C) img 0 x ≡ m0 0 x
   pub table : (k : ℕ) → k < g .rtn * g .E → rt g (mem (g .C) img) k ≡ rt g m0 k
+  pub directory : (q x : ℕ) → q < g .span (g .T) → x < g .C → mem (g .C) img (g .root (g .T) + q) x ≡ m0 (g .root (g .T) + q) x
 
 pub small-set : (l : List ℕ) (i v : ℕ) → Small l → v < 256 → Small (set l i v)
 small-set [] i v p q x = p x
@@ -47,7 +48,7 @@ module _ (g : Geo) where
   entryStore t j v = record { part = false; w = t; o = 8 * j; bs = λ f. enc 8 v }
 
   unfoldable pub linkStore : ℕ → ℕ → Store
-  linkStore i v = record { part = false; w = g .l1c + i / g .E; o = 8 * (i % g .E); bs = λ f. enc 8 v }
+  linkStore i v = record { part = false; w = row g i; o = 8 * col g i; bs = λ f. enc 8 v }
 
   -- none is a byte of a fill
   pub count-whole : (m : ℕ → ℕ → ℕ) (c v : ℕ) → countStore m c v .part ≡ false
@@ -72,18 +73,26 @@ module _ (g : Geo) (K : Codec) where
     pub here : (x : ℕ) → x < g .C → gread g K (mem (g .C) img′) i j x ≡ 0
 
 module _ (g : Geo) (K : Codec) (ok : GeoOk g K) (m0 : ℕ → ℕ → ℕ) where
-  -- a store in a cluster that is not the header's
-  pub ok-next : (img : List ℕ) (w o : ℕ) (bs : List ℕ) → Ok g K m0 img → w ≢ 0 → Small bs
+  -- cluster w is none of the directory's
+  abbrev pub Away : ℕ → Type 0
+  Away w = (q : ℕ) → q < g .span (g .T) → w ≢ g .root (g .T) + q
+
+  pub away : (m : ℕ → ℕ → ℕ) (w : ℕ) → fix g m w ≡ 0 → Away w
+  away m w z q h e = omega (arith, fix-l1 g m w (g .T) q (omega arith) h e)
+
+  -- a store in a cluster that is neither the header's nor the directory's
+  pub ok-next : (img : List ℕ) (w o : ℕ) (bs : List ℕ) → Ok g K m0 img → w ≢ 0 → Away w → Small bs
       → Stored (g .C) (mem (g .C) img) (mem (g .C) (sets img (w * g .C + o) bs)) w o bs
       → ((k : ℕ) → k < g .rtn * g .E → rt g (mem (g .C) (sets img (w * g .C + o) bs)) k ≡ rt g (mem (g .C) img) k)
       → Sound g K (mem (g .C) (sets img (w * g .C + o) bs)) → Ok g K m0 (sets img (w * g .C + o) bs)
-  ok-next img w o bs k d sm st r s =
+  ok-next img w o bs k d aw sm st r s =
       record {
         len = length-sets img (w * g .C + o) bs ∙ k .len;
         small = small-sets bs img (w * g .C + o) (k .small) sm;
         sound = s;
         head = λ x l b. st .cluster 0 x l (λ e. d (sym e)) ∙ k .head x l b;
         table = λ a l. r a l ∙ k .table a l;
+        directory = λ q x h l. st .cluster (g .root (g .T) + q) x l (λ e. aw q h (sym e)) ∙ k .directory q x h l;
       }
 
   module _ (img : List ℕ) (k : Ok g K m0 img) (w o : ℕ) (bs : List ℕ) (wN : w < g .N) (inC : o + length bs ≤ g .C) (sm : Small bs) where
@@ -96,7 +105,7 @@ module _ (g : Geo) (K : Codec) (ok : GeoOk g K) (m0 : ℕ → ℕ → ℕ) where
     -- into a cluster that nothing refers to
     pub next-free : refsOf g K (mem (g .C) img) w ≡ 0
         → Ok g K m0 (sets img (w * g .C + o) bs) × Quiet g K (mem (g .C) img) (mem (g .C) (sets img (w * g .C + o) bs))
-    next-free f = (ok-next img w o bs k (free-not-0 g K ok (mem (g .C) img) (k .sound) w f) sm next-stored (q .keep .rts) (quiet-sound g K ok (mem (g .C) img) (k .sound) _ next-small q), q)
+    next-free f = (ok-next img w o bs k (free-not-0 g K ok (mem (g .C) img) (k .sound) w f) (away (mem (g .C) img) w (free-fix (g .L) (g .E) (fix g (mem (g .C) img)) (tab g K (mem (g .C) img)) (dat g K (mem (g .C) img)) w f (free-not-0 g K ok (mem (g .C) img) (k .sound) w f))) sm next-stored (q .keep .rts) (quiet-sound g K ok (mem (g .C) img) (k .sound) _ next-small q), q)
       where
         q : Quiet g K (mem (g .C) img) (mem (g .C) (sets img (w * g .C + o) bs))
         q = free-step g K ok (mem (g .C) img) (k .sound) (mem (g .C) (sets img (w * g .C + o) bs)) next-small w f (next-stored .cluster)
@@ -115,7 +124,7 @@ module _ (g : Geo) (K : Codec) (ok : GeoOk g K) (m0 : ℕ → ℕ → ℕ) where
   unfolding apply countStore
   next-count img k c v cN lv h =
       record {
-        fine = ok-next img w o bs k w0 small st (r .0 .rts) sd;
+        fine = ok-next img w o bs k w0 (λ q b. blk-l1 g m w (c / g .H) (g .T) q cB (omega arith) b (fix-one g K ok m (k .sound) w wN) refl) small st (r .0 .rts) sd;
         keep = r .0;
         new = r .1;
         rest = r .2;
@@ -176,17 +185,19 @@ module _ (g : Geo) (K : Codec) (ok : GeoOk g K) (m0 : ℕ → ℕ → ℕ) where
     pub reads : (a b x : ℕ) → a < g .L → b < g .E → x < g .C → (a ≢ i) ⊎ (b ≢ j) → gread g K (mem (g .C) img′) a b x ≡ gread g K (mem (g .C) img) a b x
     pub read : (x : ℕ) → x < g .C → gread g K (mem (g .C) img′) i j x ≡ shown (K .clus v) (K .flag v) (mem (g .C) img (K .clus v) x)
 
-  pub next-entry : (img : List ℕ) (k : Ok g K m0 img) (i j v : ℕ) → i < g .L → j < g .E → tab g K (mem (g .C) img) i ≢ 0 → K .good2 v → v < 256 ^ 8
+  pub next-entry : (img : List ℕ) (k : Ok g K m0 img) (i j v : ℕ) → i < g .L → j < g .E → tab g K (mem (g .C) img) i ≢ 0
+      → refsOf g K (mem (g .C) img) (tab g K (mem (g .C) img) i) ≤ 1 → (dat g K (mem (g .C) img) i j ≢ 0 → refsOf g K (mem (g .C) img) (dat g K (mem (g .C) img) i j) ≤ 1)
+      → K .good2 v → v < 256 ^ 8 → (K .clus v ≢ 0 → K .own v ≡ 1)
       → (K .clus v ≢ 0 → (refsOf g K (mem (g .C) img) (K .clus v) ≡ 0) × (1 ≤ cnt g (mem (g .C) img) (K .clus v))) ⊎ (K .clus v ≡ dat g K (mem (g .C) img) i j)
       → Entered img (apply (g .C) (entryStore g (tab g K (mem (g .C) img) i) j v) img) i j v
   unfolding apply entryStore
-  next-entry img k i j v l n t gv lv new =
+  next-entry img k i j v l n t one alone gv lv marked new =
       record {
-        fine = ok-next img w o (enc 8 v) k t (small-enc 8 v) st (entry-rt g K ok m s m′ sm i j v l n t gv lv st) (entry-sound g K ok m s m′ sm i j v l n t gv lv st new);
-        blks = entry-blk g K ok m s m′ sm i j v l n t gv lv st;
-        cnts = entry-cnt g K ok m s m′ sm i j v l n t gv lv st;
-        moved = rf;
-        reads = entry-reads g K ok m s m′ sm i j v l n t gv lv st;
+        fine = ok-next img w o (enc 8 v) k t (away m w (tab-fix (g .L) (g .E) (fix g m) (tab g K m) (dat g K m) i l t one)) (small-enc 8 v) st (entry-rt g K ok m s m′ sm i j v l n t one gv lv st) (entry-sound g K ok m s m′ sm i j v l n t one gv lv st alone marked new);
+        blks = entry-blk g K ok m s m′ sm i j v l n t one gv lv st;
+        cnts = entry-cnt g K ok m s m′ sm i j v l n t one gv lv st;
+        moved = entry-refs g K ok m s m′ sm i j v l n t one gv lv st;
+        reads = entry-reads g K ok m s m′ sm i j v l n t one gv lv st;
         read = λ x h. rd x h new (ℕ-discrete (K .clus v) 0);
       }
     where
@@ -217,20 +228,12 @@ module _ (g : Geo) (K : Codec) (ok : GeoOk g K) (m0 : ℕ → ℕ → ℕ) where
       st : Stored (g .C) m m′ w o (enc 8 v)
       st = next-stored img k w o (enc 8 v) wN fits (small-enc 8 v)
 
-      rf : (c : ℕ) → refsOf g K m′ c + hit c (dat g K m i j) ≡ refsOf g K m c + hit c (K .clus v)
-      rf c =
-          ap (λ (y : ℕ). y + hit c (dat g K m i j))
-          (ap (λ (f : ℕ → ℕ). refs (g .L) (g .E) f (tab g K m′) (dat g K m′) c) (fix-same g m m′ (entry-blk g K ok m s m′ sm i j v l n t gv lv st))
-          ∙ refs-same (g .L) (g .E) (fix g m) (tab g K m′) (tab g K m) (dat g K m′) (dat g K m′) (entry-tab g K ok m s m′ sm i j v l n t gv lv st) (λ a b p q. refl) c)
-          ∙ refs-entry (g .L) (g .E) (fix g m) (tab g K m) (dat g K m) (dat g K m′) i j l n (entry-dat g K ok m s m′ sm i j v l n t gv lv st) c
-          ∙ ap (λ (y : ℕ). refsOf g K m c + hit c y) (entry-dat-new g K ok m s m′ sm i j v l n t gv lv st)
-
       rd : (x : ℕ) → x < g .C → (K .clus v ≢ 0 → (refsOf g K m (K .clus v) ≡ 0) × (1 ≤ cnt g m (K .clus v))) ⊎ (K .clus v ≡ dat g K m i j) → Dec (K .clus v ≡ 0)
           → gread g K m′ i j x ≡ shown (K .clus v) (K .flag v) (m (K .clus v) x)
-      rd x h f (yes z) = gread-none g K m′ i j x (entry-dat-new g K ok m s m′ sm i j v l n t gv lv st ∙ z) ∙ sym (shown-none (K .clus v) (K .flag v) (m (K .clus v) x) z)
-      rd x h (inl f) (no d) = entry-read g K ok m s m′ sm i j v l n t gv lv st x h (free-tab (g .L) (g .E) (fix g m) (tab g K m) (dat g K m) (K .clus v) (f d .0) d i l)
-      rd x h (inr e) (no d) = entry-read g K ok m s m′ sm i j v l n t gv lv st x h
-          (λ y. dat-tab (g .N) (g .L) (g .E) (fix g m) (tab g K m) (dat g K m) (cnt g m) (s .inv) i j i l n l (λ z. d (e ∙ z)) (dat-in g K ok m s i j l n) (sym e ∙ y))
+      rd x h f (yes z) = gread-none g K m′ i j x (entry-dat-new g K ok m s m′ sm i j v l n t one gv lv st ∙ z) ∙ sym (shown-none (K .clus v) (K .flag v) (m (K .clus v) x) z)
+      rd x h (inl f) (no d) = entry-read g K ok m s m′ sm i j v l n t one gv lv st x h (free-tab (g .L) (g .E) (fix g m) (tab g K m) (dat g K m) (K .clus v) (f d .0) d i l)
+      rd x h (inr e) (no d) = entry-read g K ok m s m′ sm i j v l n t one gv lv st x h
+          (λ y. tab-dat (g .L) (g .E) (fix g m) (tab g K m) (dat g K m) i i j l l n t one (sym y ∙ e))
 
   -- ---- a discard
   pub zeroed-then : (i j : ℕ) (img img′ img″ : List ℕ) → Zeroed g K i j img img′ → i < g .L → j < g .E
@@ -267,11 +270,12 @@ module _ (g : Geo) (K : Codec) (ok : GeoOk g K) (m0 : ℕ → ℕ → ℕ) where
   module _ (img : List ℕ) (k : Ok g K m0 img) (i j : ℕ) (l : i < g .L) (n : j < g .E) where
     -- place given: the entry becomes 0, then the count falls by one
     pub discard-run : dat g K (mem (g .C) img) i j ≢ 0
+        → refsOf g K (mem (g .C) img) (tab g K (mem (g .C) img) i) ≤ 1 → refsOf g K (mem (g .C) img) (dat g K (mem (g .C) img) i j) ≤ 1
         → Run (g .C) (MidZ i j img)
         (entryStore g (tab g K (mem (g .C) img) i) j 0 ∷ countStore g (mem (g .C) img) (dat g K (mem (g .C) img) i j) (cnt g (mem (g .C) img) (dat g K (mem (g .C) img) i j) - 1) ∷ [])
         img (EndZ i j img)
     unfolding SameGuest
-    discard-run d =
+    discard-run d one alone =
         run-cons (g .C) (MidZ i j img) _ _ img (EndZ i j img) (entry-whole g _ _ _) (k, inl (λ a b x p q h. refl))
         (run-cons (g .C) (MidZ i j img) _ _ img₁ (EndZ i j img) (count-whole g _ _ _) (e .fine, inr z₁)
         (run-none (g .C) (MidZ i j img) img₂ (EndZ i j img) (c₂ .fine, inr z₂) (c₂ .fine, z₂)))
@@ -292,7 +296,7 @@ module _ (g : Geo) (K : Codec) (ok : GeoOk g K) (m0 : ℕ → ℕ → ℕ) where
         img₁ = apply (g .C) (entryStore g (tab g K m i) j 0) img
 
         e : Entered img img₁ i j 0
-        e = next-entry img k i j 0 l n t (ok .laws .zero-good2) (zero-lt-suc _) (inl (λ f. absurd (f (ok .laws .zero-clus))))
+        e = next-entry img k i j 0 l n t one (λ z. alone) (ok .laws .zero-good2) (zero-lt-suc _) (λ f. absurd (f (ok .laws .zero-clus))) (inl (λ f. absurd (f (ok .laws .zero-clus))))
 
         z₁ : Zeroed g K i j img img₁
         z₁ = record { other = e .reads; here = λ x h. e .read x h ∙ shown-none (K .clus 0) (K .flag 0) (m (K .clus 0) x) (ok .laws .zero-clus) }
@@ -305,16 +309,16 @@ module _ (g : Geo) (K : Codec) (ok : GeoOk g K) (m0 : ℕ → ℕ → ℕ) where
 
         c₂ : CountSet img₁ img₂ c v
         c₂ = then-count img img₁ (e .fine) c v cN (omega (arith, cnt-small m c))
-            (omega (arith, e .moved c, hit-self c d, ap (hit c) (ok .laws .zero-clus), hit-zero c, k .sound .inv .single c cN)) (e .blks)
+            (omega (arith, e .moved c, hit-self c d, ap (hit c) (ok .laws .zero-clus), hit-zero c, alone, k .sound .inv .covered c cN)) (e .blks)
 
         z₂ : Zeroed g K i j img img₂
         z₂ = zeroed-then i j img img₁ img₂ z₁ l n (c₂ .reads)
 
     -- a zero mark with no place
-    pub unmark-run : tab g K (mem (g .C) img) i ≢ 0 → dat g K (mem (g .C) img) i j ≡ 0
+    pub unmark-run : tab g K (mem (g .C) img) i ≢ 0 → dat g K (mem (g .C) img) i j ≡ 0 → refsOf g K (mem (g .C) img) (tab g K (mem (g .C) img) i) ≤ 1
         → Run (g .C) (MidZ i j img) (entryStore g (tab g K (mem (g .C) img) i) j 0 ∷ []) img (EndZ i j img)
     unfolding SameGuest
-    unmark-run t d = run-cons (g .C) (MidZ i j img) _ _ img (EndZ i j img) (entry-whole g _ _ _) (k, inl (λ a b x p q h. refl)) (run-none (g .C) (MidZ i j img) img₁ (EndZ i j img) (e .fine, inr z₁) (e .fine, z₁))
+    unmark-run t d one = run-cons (g .C) (MidZ i j img) _ _ img (EndZ i j img) (entry-whole g _ _ _) (k, inl (λ a b x p q h. refl)) (run-none (g .C) (MidZ i j img) img₁ (EndZ i j img) (e .fine, inr z₁) (e .fine, z₁))
       where
         m : ℕ → ℕ → ℕ
         m = mem (g .C) img
@@ -323,7 +327,7 @@ module _ (g : Geo) (K : Codec) (ok : GeoOk g K) (m0 : ℕ → ℕ → ℕ) where
         img₁ = apply (g .C) (entryStore g (tab g K m i) j 0) img
 
         e : Entered img img₁ i j 0
-        e = next-entry img k i j 0 l n t (ok .laws .zero-good2) (zero-lt-suc _) (inl (λ f. absurd (f (ok .laws .zero-clus))))
+        e = next-entry img k i j 0 l n t one (λ z. absurd (z d)) (ok .laws .zero-good2) (zero-lt-suc _) (λ f. absurd (f (ok .laws .zero-clus))) (inl (λ f. absurd (f (ok .laws .zero-clus))))
 
         z₁ : Zeroed g K i j img img₁
         z₁ = record { other = e .reads; here = λ x h. e .read x h ∙ shown-none (K .clus 0) (K .flag 0) (m (K .clus 0) x) (ok .laws .zero-clus) }

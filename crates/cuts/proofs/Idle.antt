@@ -7,8 +7,8 @@ use native.Mathlib.Omega.{arith}
 use lib.ListN.{length, set}
 use lib.Seq.{sets, length-sets}
 use Rattle.cuts.proofs.Cell.{Small, Stored, mem}
-use Rattle.cuts.proofs.Meta.{Geo, GeoOk, Codec}
-use Rattle.cuts.proofs.Step.{Quiet, quiet-sound, head-step}
+use Rattle.cuts.proofs.Meta.{Geo, GeoOk, Codec, l1-0}
+use Rattle.cuts.proofs.Step.{Quiet, fix-one, quiet-sound, head-step}
 use Rattle.cuts.proofs.Call.{Ok, small-sets, next-small, next-stored}
 
 -- ---- two runs of stores that lie apart, in either order
@@ -38,6 +38,8 @@ module _ (g : Geo) (K : Codec) (ok : GeoOk g K) (m0 : ℕ → ℕ → ℕ) (img 
       sound = quiet-sound g K ok (mem (g .C) img) (k .sound) m′ small q;
       head = λ x l b. at x l b ∙ k .head x l b;
       table = λ a l. q .keep .rts a l ∙ k .table a l;
+      directory = λ a x h l. st .cluster (g .root (g .T) + a) x l
+          (l1-0 g (mem (g .C) img) _ (g .T) a (omega arith) h (fix-one g K ok (mem (g .C) img) (k .sound) _ (ok .l1in (g .T) a (omega arith) h)) refl) ∙ k .directory a x h l;
     },
     q,
   )

@@ -1,12 +1,12 @@
 -- The tables of an image, read from its clusters, and what a store in one cluster leaves of them. Assumes nothing.
 use mathlib.Core.Path.{_≡_, refl, sym, ap, _∙_, fun-ext}
-use mathlib.Core.Logic.{_⊎_, inl, inr, _≢_}
+use mathlib.Core.Logic.{_⊎_, inl, inr, _≢_, _↔_}
 use Prim.Native.Nat.{ℕ, zero, suc, _+_, _-_, _*_, _/_, _%_, _^_, _≤_, _<_}
 use native.Mathlib.Nat.{div-lt-iff-lt-mul, mod-lt, mul-le-mul-left}
-use native.Mathlib.Decide.{ℕ-discrete}
+use native.Mathlib.Decide.{ℕ-discrete, decLt}
 use native.Mathlib.Omega.{arith}
 use Rattle.cuts.proofs.Sum.{sumTo, sum-cong, sum-two, sum-mem}
-use Rattle.cuts.proofs.Refs.{when-yes, refs, refs-same, Inv}
+use Rattle.cuts.proofs.Refs.{when-yes, refs, refs-same, Inv, inv-same}
 use Rattle.widths.specs.Width.{span}
 use Rattle.cuts.proofs.Cell.{num, num-cong, cell, cell-cong, Even, Within}
 
@@ -17,9 +17,12 @@ pub record Geo : Type 0 where
   pub W : ℕ  -- bits of a count
   pub N : ℕ  -- clusters
   pub B : ℕ  -- blocks
-  pub L : ℕ  -- L1 entries
-  pub l1c : ℕ  -- the L1 table's first cluster, and how many it has
-  pub l1n : ℕ
+  pub T : ℕ  -- L1 tables: the guest's is 0, the others are the snapshots'
+  pub M : ℕ  -- entry r of L1 table t has the number t * M + r
+  pub L : ℕ  -- so many numbers
+  pub len : ℕ → ℕ  -- the entries of L1 table t
+  pub root : ℕ → ℕ  -- the first cluster of L1 table t, and how many it has; after the last table, those of the snapshots' directory
+  pub span : ℕ → ℕ
   pub rtc : ℕ  -- the refcount table's
   pub rtn : ℕ
   pub size : ℕ  -- bytes of the guest's disk
@@ -30,6 +33,7 @@ pub record Geo : Type 0 where
 pub record Codec : Type 1 where
   pub clus : ℕ → ℕ
   pub flag : ℕ → ℕ
+  pub own : ℕ → ℕ  -- the mark of an entry whose place has one reference: 1
   pub good1 : ℕ → Type 0
   pub good2 : ℕ → Type 0
   pub mk : ℕ → ℕ
@@ -39,10 +43,12 @@ pub record Laws (N : ℕ) (K : Codec) : Type 0 where
   pub in2 : (e : ℕ) → K .good2 e → K .clus e < N
   pub mk-clus : (t : ℕ) → t < N → K .clus (K .mk t) ≡ t
   pub mk-flag : (t : ℕ) → t < N → K .flag (K .mk t) ≡ 0
+  pub mk-own : (t : ℕ) → t < N → K .own (K .mk t) ≡ 1
   pub mk-good1 : (t : ℕ) → t < N → t ≢ 0 → K .good1 (K .mk t)
   pub mk-good2 : (t : ℕ) → t < N → t ≢ 0 → K .good2 (K .mk t)
   pub mk-lt : (t : ℕ) → t < N → K .mk t < 256 ^ 8
   pub zero-clus : K .clus 0 ≡ 0
+  pub zero-good1 : K .good1 0
   pub zero-good2 : K .good2 0
 
 pub record GeoOk (g : Geo) (K : Codec) : Type 0 where
@@ -56,11 +62,12 @@ pub record GeoOk (g : Geo) (K : Codec) : Type 0 where
   pub hpos : 0 < g .H
   pub blocks : g .N ≤ g .B * g .H
   pub rtfit : g .B ≤ g .rtn * g .E
-  pub l1fit : g .L ≤ g .l1n * g .E
+  pub mpos : 0 < g .M
+  pub every : g .L ≡ g .T * g .M
+  pub l1fit : (t : ℕ) → t < g .T → g .len t ≤ g .span t * g .E
   pub rtin : g .rtc + g .rtn ≤ g .N
-  pub l1in : g .l1c + g .l1n ≤ g .N
+  pub l1in : (t k : ℕ) → t < suc (g .T) → k < g .span t → g .root t + k < g .N
   pub npos : 0 < g .N
-  pub reach : g .size ≤ g .L * g .E * g .C
   pub idle-in : g .busy ≤ g .C
 
 unfoldable pub same : ℕ → ℕ → ℕ
@@ -88,16 +95,56 @@ module _ (g : Geo) where
   unfolding blk
   cnt m c = cell (g .W) (m (blk m (c / g .H))) (g .W * (c % g .H))
 
-  -- entry i of the L1 table, and entry j of the L2 table in cluster t
+  -- the L1 table of number i, the cluster of entry i and the place in it
+  abbrev pub tree : ℕ → ℕ
+  tree i = i / g .M
+
+  abbrev pub row : ℕ → ℕ
+  row i = g .root (i / g .M) + i % g .M / g .E
+
+  abbrev pub col : ℕ → ℕ
+  col i = i % g .M % g .E
+
+  -- number i stands for an entry
+  abbrev pub Has : ℕ → Type 0
+  Has i = i % g .M < g .len (i / g .M)
+
+  -- L1 entry i, 0 where there is none, and entry j of the L2 table in cluster t
   unfoldable pub l1 : (ℕ → ℕ → ℕ) → ℕ → ℕ
-  l1 m i = num 8 (m (g .l1c + i / g .E)) (8 * (i % g .E))
+  unfolding when-yes
+  l1 m i = when-yes (decLt (i % g .M) (g .len (i / g .M))) (num 8 (m (row i)) (8 * col i))
 
   unfoldable pub l2 : (ℕ → ℕ → ℕ) → ℕ → ℕ → ℕ
   l2 m t j = num 8 (m t) (8 * j)
 
-  -- references that no L1 or L2 entry makes: cluster 0, the refcount table, the L1 table, the blocks
+  -- the clusters of the L1 tables and of the directory
+  unfoldable pub rooted : ℕ → ℕ
+  rooted c = sumTo (suc (g .T)) (λ t. sumTo (g .span t) (λ k. same c (g .root t + k)))
+
+  -- references that no L1 or L2 entry makes: cluster 0, the refcount table, the L1 tables and the directory, the blocks
   unfoldable pub fix : (ℕ → ℕ → ℕ) → ℕ → ℕ
-  fix m c = same c 0 + sumTo (g .rtn) (λ k. same c (g .rtc + k)) + sumTo (g .l1n) (λ k. same c (g .l1c + k)) + sumTo (g .B) (λ k. same c (blk m k))
+  unfolding rooted
+  fix m c = same c 0 + sumTo (g .rtn) (λ k. same c (g .rtc + k)) + rooted c + sumTo (g .B) (λ k. same c (blk m k))
+
+  pub l1-some : (m : ℕ → ℕ → ℕ) (i : ℕ) → Has i → l1 m i ≡ num 8 (m (row i)) (8 * col i)
+  unfolding l1 when-yes
+  l1-some m i h = go (decLt (i % g .M) (g .len (i / g .M)))
+    where
+      go : (d : Dec (i % g .M < g .len (i / g .M))) → when-yes d (num 8 (m (row i)) (8 * col i)) ≡ num 8 (m (row i)) (8 * col i)
+      go (yes e) = refl
+      go (no n) = absurd (n h)
+
+  pub l1-none : (m : ℕ → ℕ → ℕ) (i : ℕ) → ¬ Has i → l1 m i ≡ 0
+  unfolding l1 when-yes
+  l1-none m i h = go (decLt (i % g .M) (g .len (i / g .M)))
+    where
+      go : (d : Dec (i % g .M < g .len (i / g .M))) → when-yes d (num 8 (m (row i)) (8 * col i)) ≡ 0
+      go (yes e) = absurd (h e)
+      go (no n) = refl
+
+-- the mark o is right where r references lead
+abbrev pub Right : (o r : ℕ) → Type 0
+Right o r = (o ≡ 1) ↔ (r ≡ 1)
 
 unfoldable pub under : ℕ → ℕ → ℕ
 under zero p = 0
@@ -125,7 +172,9 @@ pub record Sound (g : Geo) (K : Codec) (m : ℕ → ℕ → ℕ) : Type 0 where
   pub blkin : (k : ℕ) → k < g .B → blk g m k < g .N
   pub goods1 : (i : ℕ) → i < g .L → K .good1 (l1 g m i)
   pub goods2 : (i j : ℕ) → i < g .L → j < g .E → tab g K m i ≢ 0 → K .good2 (l2 g m (tab g K m i) j)
-  pub inv : Inv (g .N) (g .L) (g .E) (fix g m) (tab g K m) (dat g K m) (cnt g m)
+  pub inv : Inv (g .N) (g .L) (g .E) (tree g) (fix g m) (tab g K m) (dat g K m) (cnt g m)
+  pub mark1 : (i : ℕ) → i < g .L → i < g .M → tab g K m i ≢ 0 → Right (K .own (l1 g m i)) (refsOf g K m (tab g K m i))
+  pub mark2 : (i j : ℕ) → i < g .L → i < g .M → j < g .E → dat g K m i j ≢ 0 → Right (K .own (l2 g m (tab g K m i) j)) (refsOf g K m (dat g K m i j))
 
 -- every table of m′ is that of m; the counts may differ
 pub record Keep (g : Geo) (K : Codec) (m m′ : ℕ → ℕ → ℕ) : Type 0 where
@@ -180,8 +229,31 @@ module _ (g : Geo) (K : Codec) (ok : GeoOk g K) (m m′ : ℕ → ℕ → ℕ) w
         goods2 = λ i j l k d. let t : tab g K m′ i ≡ tab g K m i = keep-tab e i l in
             let d′ : tab g K m i ≢ 0 = λ z. d (t ∙ z) in
             rw t (rw (e .l2s i j l k d′) (s .goods2 i j l k d′));
-        inv = record { single = λ c l. rw (keep-refs e c) (s .inv .single c l); covered = λ c l. rw (keep-refs e c) (h c l) };
+        inv = let v : Inv (g .N) (g .L) (g .E) (tree g) (fix g m′) (tab g K m) (dat g K m) (cnt g m) = rw fix-kept (s .inv) in
+            let w : Inv (g .N) (g .L) (g .E) (tree g) (fix g m′) (tab g K m′) (dat g K m′) (cnt g m) =
+            inv-same (g .N) (g .L) (g .E) (tree g) (fix g m′) (tab g K m) (tab g K m′) (dat g K m) (dat g K m′) (cnt g m) (cnt g m) v (λ i l. sym (keep-tab e i l)) (λ i j l k. sym (keep-dat e i j l k)) (λ c l. refl) in
+            record { fixed = w .fixed; roles = w .roles; once = w .once; covered = λ c l. rw (keep-refs e c) (h c l) };
+        mark1 = λ i l n d. let t : tab g K m′ i ≡ tab g K m i = keep-tab e i l in
+            rw (e .l1s i l, t, keep-refs e (tab g K m i)) (s .mark1 i l n (λ z. d (t ∙ z)));
+        mark2 = λ i j l n k d. let t : tab g K m′ i ≡ tab g K m i = keep-tab e i l in
+            let q : dat g K m′ i j ≡ dat g K m i j = keep-dat e i j l k in
+            let d′ : dat g K m i j ≢ 0 = λ z. d (q ∙ z) in
+            rw (t, q, e .l2s i j l k (λ z. d′ (dat-none g K m i j z)), keep-refs e (dat g K m i j)) (s .mark2 i j l n k d′);
       }
+    where
+      fix-kept : fix g m′ ≡ fix g m
+      fix-kept = fun-ext (keep-fix e)
+
+-- ---- the numbers of L1 entries
+module _ (g : Geo) (K : Codec) (ok : GeoOk g K) (i : ℕ) (l : i < g .L) where
+  pub tree-in : i / g .M < g .T
+  tree-in = div-lt-iff-lt-mul (ok .mpos) .1 (omega (arith, ok .every))
+
+  pub row-in : Has g i → i % g .M / g .E < g .span (i / g .M)
+  row-in h = div-lt-iff-lt-mul (ok .epos) .1 (omega (arith, ok .l1fit (i / g .M) tree-in))
+
+  pub row-N : Has g i → row g i < g .N
+  row-N h = ok .l1in (i / g .M) (i % g .M / g .E) (omega (arith, tree-in)) (row-in h)
 
 -- ---- what a change in cluster w leaves
 abbrev pub Off : ℕ → (ℕ → ℕ → ℕ) → (ℕ → ℕ → ℕ) → ℕ → Type 0
@@ -201,11 +273,16 @@ module _ (g : Geo) (K : Codec) (ok : GeoOk g K) (m m′ : ℕ → ℕ → ℕ) (
       num-off 8 (g .rtc + k / g .E) (8 * (k % g .E)) (omega (arith, ok .c8, mod-lt k (ok .epos)))
       (λ e. a (k / g .E) (div-lt-iff-lt-mul (ok .epos) .1 l) (sym e))
 
-  pub l1-off : ((k : ℕ) → k < g .l1n → w ≢ g .l1c + k) → (i : ℕ) → i < g .L → l1 g m′ i ≡ l1 g m i
-  unfolding l1
-  l1-off a i l =
-      num-off 8 (g .l1c + i / g .E) (8 * (i % g .E)) (omega (arith, ok .c8, mod-lt i (ok .epos)))
-      (λ e. a (i / g .E) (div-lt-iff-lt-mul (ok .epos) .1 (omega (arith, ok .l1fit))) (sym e))
+  pub l1-off : ((t k : ℕ) → t < suc (g .T) → k < g .span t → w ≢ g .root t + k) → (i : ℕ) → i < g .L → l1 g m′ i ≡ l1 g m i
+  l1-off a i l = go (decLt (i % g .M) (g .len (i / g .M)))
+    where
+      go : Dec (i % g .M < g .len (i / g .M)) → l1 g m′ i ≡ l1 g m i
+      go (no n) = l1-none g m′ i n ∙ sym (l1-none g m i n)
+      go (yes h) =
+          l1-some g m′ i h
+          ∙ num-off 8 (row g i) (8 * col g i) (omega (arith, ok .c8, mod-lt (i % g .M) (ok .epos)))
+          (λ e. a (i / g .M) (i % g .M / g .E) (omega (arith, tree-in g K ok i l)) (row-in g K ok i l h) (sym e))
+          ∙ sym (l1-some g m i h)
 
   -- a count's bytes are inside its block
   pub cell-in : (i : ℕ) → i < g .H → g .W * i / 8 + span (g .W) ≤ g .C
@@ -235,9 +312,21 @@ module _ (g : Geo) (m : ℕ → ℕ → ℕ) (c : ℕ) where
   unfolding fix
   fix-rt k l e = omega (arith, same-eq c (g .rtc + k) e, sum-mem (g .rtn) (λ x. same c (g .rtc + x)) k l)
 
-  pub fix-l1 : (k : ℕ) → k < g .l1n → c ≡ g .l1c + k → 1 ≤ fix g m c
+  root-one : (t k : ℕ) → t < suc (g .T) → k < g .span t → c ≡ g .root t + k → 1 ≤ sumTo (g .span t) (λ x. same c (g .root t + x))
+  root-one t k l n e = omega (arith, same-eq c (g .root t + k) e, sum-mem (g .span t) (λ x. same c (g .root t + x)) k n)
+
+  roots-one : (t k : ℕ) → t < suc (g .T) → k < g .span t → c ≡ g .root t + k → 1 ≤ rooted g c
+  unfolding rooted
+  roots-one t k l n e = omega (arith, root-one t k l n e, sum-mem (suc (g .T)) (λ x. sumTo (g .span x) (λ y. same c (g .root x + y))) t l)
+
+  roots-two : (t k u q : ℕ) → t < suc (g .T) → k < g .span t → u < suc (g .T) → q < g .span u → t ≢ u → c ≡ g .root t + k → c ≡ g .root u + q → 2 ≤ rooted g c
+  unfolding rooted
+  roots-two t k u q l n p o d e f =
+      omega (arith, root-one t k l n e, root-one u q p o f, sum-two (suc (g .T)) (λ x. sumTo (g .span x) (λ y. same c (g .root x + y))) t u l p d)
+
+  pub fix-l1 : (t k : ℕ) → t < suc (g .T) → k < g .span t → c ≡ g .root t + k → 1 ≤ fix g m c
   unfolding fix
-  fix-l1 k l e = omega (arith, same-eq c (g .l1c + k) e, sum-mem (g .l1n) (λ x. same c (g .l1c + x)) k l)
+  fix-l1 t k l n e = omega (arith, roots-one t k l n e)
 
   pub fix-blk : (k : ℕ) → k < g .B → c ≡ blk g m k → 1 ≤ fix g m c
   unfolding fix
@@ -253,10 +342,10 @@ module _ (g : Geo) (m : ℕ → ℕ → ℕ) (c : ℕ) where
   blk-rt k a l n f e z =
       omega (arith, same-eq c (g .rtc + a) z, sum-mem (g .rtn) (λ x. same c (g .rtc + x)) a n, same-eq c (blk g m k) e, sum-mem (g .B) (λ x. same c (blk g m x)) k l)
 
-  pub blk-l1 : (k a : ℕ) → k < g .B → a < g .l1n → fix g m c ≤ 1 → c ≡ blk g m k → c ≢ g .l1c + a
+  pub blk-l1 : (k t a : ℕ) → k < g .B → t < suc (g .T) → a < g .span t → fix g m c ≤ 1 → c ≡ blk g m k → c ≢ g .root t + a
   unfolding fix
-  blk-l1 k a l n f e z =
-      omega (arith, same-eq c (g .l1c + a) z, sum-mem (g .l1n) (λ x. same c (g .l1c + x)) a n, same-eq c (blk g m k) e, sum-mem (g .B) (λ x. same c (blk g m x)) k l)
+  blk-l1 k t a l n o f e z =
+      omega (arith, roots-one t a n o z, same-eq c (blk g m k) e, sum-mem (g .B) (λ x. same c (blk g m x)) k l)
 
   pub blk-blk : (k a : ℕ) → k < g .B → a < g .B → a ≢ k → fix g m c ≤ 1 → c ≡ blk g m k → c ≢ blk g m a
   unfolding fix
@@ -268,12 +357,16 @@ module _ (g : Geo) (m : ℕ → ℕ → ℕ) (c : ℕ) where
   unfolding fix
   rt-0 k l f e z = omega (arith, same-eq c 0 z, same-eq c (g .rtc + k) e, sum-mem (g .rtn) (λ x. same c (g .rtc + x)) k l)
 
-  -- a cluster of the L1 table is none of the others
-  pub l1-0 : (k : ℕ) → k < g .l1n → fix g m c ≤ 1 → c ≡ g .l1c + k → c ≢ 0
+  -- a cluster of an L1 table or of the directory is none of the others
+  pub l1-0 : (t k : ℕ) → t < suc (g .T) → k < g .span t → fix g m c ≤ 1 → c ≡ g .root t + k → c ≢ 0
   unfolding fix
-  l1-0 k l f e z = omega (arith, same-eq c 0 z, same-eq c (g .l1c + k) e, sum-mem (g .l1n) (λ x. same c (g .l1c + x)) k l)
+  l1-0 t k l n f e z = omega (arith, same-eq c 0 z, roots-one t k l n e)
 
-  pub l1-rt : (k a : ℕ) → k < g .l1n → a < g .rtn → fix g m c ≤ 1 → c ≡ g .l1c + k → c ≢ g .rtc + a
+  pub l1-rt : (t k a : ℕ) → t < suc (g .T) → k < g .span t → a < g .rtn → fix g m c ≤ 1 → c ≡ g .root t + k → c ≢ g .rtc + a
   unfolding fix
-  l1-rt k a l n f e z =
-      omega (arith, same-eq c (g .rtc + a) z, sum-mem (g .rtn) (λ x. same c (g .rtc + x)) a n, same-eq c (g .l1c + k) e, sum-mem (g .l1n) (λ x. same c (g .l1c + x)) k l)
+  l1-rt t k a l o n f e z =
+      omega (arith, same-eq c (g .rtc + a) z, sum-mem (g .rtn) (λ x. same c (g .rtc + x)) a n, roots-one t k l o e)
+
+  pub l1-l1 : (t k u q : ℕ) → t < suc (g .T) → k < g .span t → u < suc (g .T) → q < g .span u → t ≢ u → fix g m c ≤ 1 → c ≡ g .root t + k → c ≢ g .root u + q
+  unfolding fix
+  l1-l1 t k u q l n p o d f e z = omega (arith, roots-two t k u q l n p o d e z)

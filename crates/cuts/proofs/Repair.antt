@@ -10,7 +10,7 @@ use mathlib.Core.Bool.{false}
 use Rattle.cuts.proofs.Cell.{mem}
 use Rattle.cuts.proofs.Meta.{Geo, GeoOk, Codec, cnt, refsOf}
 use Rattle.cuts.proofs.Run.{Store, apply, starts, Run, run-none, run-cons, run-append}
-use Rattle.cuts.proofs.Call.{Ok, countStore, count-whole, one-fits, SameGuest}
+use Rattle.cuts.proofs.Call.{Ok, countStore, count-whole, SameGuest, cnt-small}
 use Rattle.cuts.proofs.Write.{Still, still-start, still-count, still-refs}
 
 -- the unit, unless the two figures are the same
@@ -57,7 +57,7 @@ module _ (g : Geo) (K : Codec) (ok : GeoOk g K) (m0 : ℕ → ℕ → ℕ) (img 
 
       r : Still g K ok m0 img s₁ × (cnt g (mem (g .C) s₁) c ≡ v) × ((x : ℕ) → x < g .N → x ≢ c → cnt g (mem (g .C) s₁) x ≡ cnt g (mem (g .C) s) x)
           × ((a x : ℕ) → x < g .C → refsOf g K (mem (g .C) img) a ≡ 0 → mem (g .C) s₁ a x ≡ mem (g .C) s a x)
-      r = still-count g K ok m0 img s (u .still) c v l (omega (arith, k .sound .inv .single c l, one-fits g K ok m0)) (le-refl _)
+      r = still-count g K ok m0 img s (u .still) c v l (omega (arith, k .sound .inv .covered c l, cnt-small g K ok m0 (mem (g .C) img) c)) (le-refl _)
 
       go : (x : ℕ) → x < g .N → x < suc c → Dec (x ≡ c) → cnt g (mem (g .C) s₁) x ≡ refsOf g K (mem (g .C) img) x
       go x q h (yes f) = rw f (r .1)

@@ -3,22 +3,22 @@ use mathlib.Core.Path.{_≡_, refl, sym, ap, _∙_}
 use mathlib.Core.Logic.{_⊎_, inl, inr, _≢_}
 use mathlib.Core.List.{List, [], _∷_, _++_}
 use Prim.Native.Nat.{ℕ, zero, suc, _+_, _-_, _*_, _/_, _%_, _^_, _≤_, _<_}
-use native.Mathlib.Nat.{div-lt-iff-lt-mul, mod-lt, zero-lt-suc, add-assoc}
+use native.Mathlib.Nat.{mod-lt, zero-lt-suc, add-assoc}
 use native.Mathlib.Decide.{ℕ-discrete}
 use native.Mathlib.Omega.{arith}
 use lib.ListN.{length, getD}
 use lib.Seq.{sets}
-use Rattle.cuts.proofs.Refs.{refs-fix}
+use Rattle.cuts.proofs.Refs.{refs-fix, dat-fix}
 use Rattle.cuts.proofs.Cell.{num, enc, length-enc, small-enc, Small, Stored, mem}
-use Rattle.cuts.proofs.Meta.{Geo, GeoOk, Codec, cnt, l2, fix, tab, dat, refsOf, Sound, Keep, dat-none, keep-blk, keep-tab, keep-dat, keep-refs, keep-sound, l1-0, fix-l1}
-use Rattle.cuts.proofs.Step.{shown, gread, gread-none, Quiet, dat-in, fix-one, free-not-0, data-step, link-rt, link-sound, link-reads, link-zeros, link-read}
+use Rattle.cuts.proofs.Meta.{Geo, GeoOk, Codec, cnt, row, col, Has, l2, fix, tab, dat, refsOf, Sound, Keep, dat-none, keep-blk, keep-tab, keep-dat, keep-refs, keep-sound, l1-0, fix-l1, tree-in, row-in, row-N}
+use Rattle.cuts.proofs.Step.{shown, gread, gread-none, Quiet, dat-in, fix-one, free-not-0, data-step, link-rt, link-away, link-sound, link-reads, link-zeros, link-read}
 use Rattle.cuts.proofs.Run.{apply, fill, starts, Run, run-none, run-cons, run-append, run-fill, small-mix}
 use lib.ListN.{replicate, length-replicate, length-append, List·getD-append}
 use lib.Seq.{getD-append-add}
 use Rattle.cuts.proofs.Cell.{small-append, stored-num, stored-apart}
 use Rattle.cuts.proofs.Step.{gread-keep, pair-or, steps-apart}
 use native.Mathlib.Nat.{zero-add}
-use Rattle.cuts.proofs.Call.{Ok, countStore, entryStore, linkStore, count-whole, entry-whole, link-whole, ok-next, next-small, next-stored, next-free, CountSet, then-count, one-fits, Entered, next-entry, SameGuest}
+use Rattle.cuts.proofs.Call.{Ok, countStore, entryStore, linkStore, count-whole, entry-whole, link-whole, away, ok-next, next-small, next-stored, next-free, CountSet, then-count, one-fits, Entered, next-entry, SameGuest}
 
 -- zeros around the data
 unfoldable pub around : ℕ → ℕ → List ℕ → List ℕ
@@ -119,10 +119,10 @@ module _ (g : Geo) (K : Codec) (ok : GeoOk g K) (m0 : ℕ → ℕ → ℕ) where
   MidP i j o bs img s = Ok g K m0 s × Partly g K i j o bs img s
 
   module _ (img : List ℕ) (k : Ok g K m0 img) (i j o : ℕ) (bs : List ℕ) (l : i < g .L) (n : j < g .E) (inC : o + length bs ≤ g .C) (sm : Small bs) where
-    place-end : dat g K (mem (g .C) img) i j ≢ 0 → K .flag (l2 g (mem (g .C) img) (tab g K (mem (g .C) img) i) j) ≡ 0 → (vs : List ℕ) → o + length vs ≤ g .C → Small vs
+    place-end : dat g K (mem (g .C) img) i j ≢ 0 → refsOf g K (mem (g .C) img) (dat g K (mem (g .C) img) i j) ≤ 1 → K .flag (l2 g (mem (g .C) img) (tab g K (mem (g .C) img) i) j) ≡ 0 → (vs : List ℕ) → o + length vs ≤ g .C → Small vs
         → EndW i j o vs img (sets img (dat g K (mem (g .C) img) i j * g .C + o) vs)
-    place-end d f vs h p = (
-      ok-next g K ok m0 img w o vs k d p st (r .0 .rts) (keep-sound g K ok m m′ s (r .0) (λ c q. omega (arith, s .inv .covered c q, r .1 c q))),
+    place-end d one f vs h p = (
+      ok-next g K ok m0 img w o vs k d (away g K ok m0 m w (dat-fix (g .L) (g .E) (fix g m) (tab g K m) (dat g K m) i j l n d one)) p st (r .0 .rts) (keep-sound g K ok m m′ s (r .0) (λ c q. omega (arith, s .inv .covered c q, r .1 c q))),
       record {
         other = r .2;
         inside = λ y q. gread-shown g K m′ i j (o + y) (λ z. d (sym dd ∙ z)) ff ∙ ap (λ (c : ℕ). m′ c (o + y)) dd ∙ st .inside y q;
@@ -150,7 +150,7 @@ module _ (g : Geo) (K : Codec) (ok : GeoOk g K) (m0 : ℕ → ℕ → ℕ) where
 
         r : Keep g K m m′ × ((c : ℕ) → c < g .N → cnt g m′ c ≡ cnt g m c)
             × ((a b x : ℕ) → a < g .L → b < g .E → x < g .C → (a ≢ i) ⊎ (b ≢ j) → gread g K m′ a b x ≡ gread g K m a b x)
-        r = data-step g K ok m s m′ (next-small g K ok m0 img k w o vs wN h p) i j l n d (st .cluster)
+        r = data-step g K ok m s m′ (next-small g K ok m0 img k w o vs wN h p) i j l n d one (st .cluster)
 
         tt′ : tab g K m′ i ≡ tab g K m i
         tt′ = keep-tab g K ok m m′ (r .0) i l
@@ -165,13 +165,13 @@ module _ (g : Geo) (K : Codec) (ok : GeoOk g K) (m0 : ℕ → ℕ → ℕ) where
         out x q (inl e) = st .before w x q e
         out x q (inr e) = st .after w x q e
 
-    pub place-run : dat g K (mem (g .C) img) i j ≢ 0 → K .flag (l2 g (mem (g .C) img) (tab g K (mem (g .C) img) i) j) ≡ 0
+    pub place-run : dat g K (mem (g .C) img) i j ≢ 0 → refsOf g K (mem (g .C) img) (dat g K (mem (g .C) img) i j) ≤ 1 → K .flag (l2 g (mem (g .C) img) (tab g K (mem (g .C) img) i) j) ≡ 0
         → Run (g .C) (MidP i j o bs img) (fill (dat g K (mem (g .C) img) i j) o bs) img (EndW i j o bs img)
-    place-run d f =
+    place-run d one f =
         run-fill (g .C) (MidP i j o bs img) (dat g K (mem (g .C) img) i j) o bs img (EndW i j o bs img)
-        (λ vs x. let r : EndW i j o vs img (sets img (dat g K (mem (g .C) img) i j * g .C + o) vs) = place-end d f vs (omega (arith, x .len)) (small-mix _ img bs vs (k .small) sm x) in
+        (λ vs x. let r : EndW i j o vs img (sets img (dat g K (mem (g .C) img) i j * g .C + o) vs) = place-end d one f vs (omega (arith, x .len)) (small-mix _ img bs vs (k .small) sm x) in
         (r .0, record { bytes = vs; len = x .len; each = λ y q. seen vs y (x .each y q); wrote = r .1 }))
-        (place-end d f bs inC sm)
+        (place-end d one f bs inC sm)
       where
         seen : (vs : List ℕ) (y : ℕ) → (getD vs y 0 ≡ getD img (dat g K (mem (g .C) img) i j * g .C + o + y) 0) ⊎ (getD vs y 0 ≡ getD bs y 0)
             → (getD vs y 0 ≡ gread g K (mem (g .C) img) i j (o + y)) ⊎ (getD vs y 0 ≡ getD bs y 0)
@@ -223,11 +223,12 @@ module _ (g : Geo) (K : Codec) (ok : GeoOk g K) (m0 : ℕ → ℕ → ℕ) where
   module _ (img : List ℕ) (k : Ok g K m0 img) (i j o : ℕ) (bs : List ℕ) (l : i < g .L) (n : j < g .E) (inC : o + length bs ≤ g .C) (sm : Small bs) where
     -- what a new entry for cluster c brings to light, where the guest saw zeros
     commit : (s : List ℕ) → Still img s → (c : ℕ) → c < g .N → c ≢ 0 → tab g K (mem (g .C) img) i ≢ 0
+        → refsOf g K (mem (g .C) img) (tab g K (mem (g .C) img) i) ≤ 1 → (dat g K (mem (g .C) img) i j ≢ 0 → refsOf g K (mem (g .C) img) (dat g K (mem (g .C) img) i j) ≤ 1)
         → ((refsOf g K (mem (g .C) s) c ≡ 0) × (1 ≤ cnt g (mem (g .C) s) c)) ⊎ (c ≡ dat g K (mem (g .C) s) i j)
         → ((x : ℕ) → x < g .C → mem (g .C) s c x ≡ getD (around (g .C) o bs) x 0) → ((x : ℕ) → x < g .C → gread g K (mem (g .C) img) i j x ≡ 0)
         → EndW i j o bs img (apply (g .C) (entryStore g (tab g K (mem (g .C) img) i) j (K .mk c)) s)
     unfolding SameGuest
-    commit s t c cN c0 tb new body zs = (
+    commit s t c cN c0 tb one alone new body zs = (
       e .fine,
       record {
         other = λ a b x p q h d. e .reads a b x p q h d ∙ t .reads a b x p q h;
@@ -245,6 +246,12 @@ module _ (g : Geo) (K : Codec) (ok : GeoOk g K) (m0 : ℕ → ℕ → ℕ) where
         tb′ : tab g K ms i ≡ tab g K m i
         tb′ = keep-tab g K ok m ms (t .keep) i l
 
+        db′ : dat g K ms i j ≡ dat g K m i j
+        db′ = keep-dat g K ok m ms (t .keep) i j l n
+
+        alone′ : dat g K ms i j ≢ 0 → refsOf g K ms (dat g K ms i j) ≤ 1
+        alone′ z = rw (db′, still-refs img s t (dat g K m i j)) (alone (λ y. z (db′ ∙ y)))
+
         mc : K .clus (K .mk c) ≡ c
         mc = ok .laws .mk-clus c cN
 
@@ -254,19 +261,19 @@ module _ (g : Geo) (K : Codec) (ok : GeoOk g K) (m0 : ℕ → ℕ → ℕ) where
         new′ (inr f) = inr (mc ∙ f)
 
         e : Entered g K ok m0 s (apply (g .C) (entryStore g (tab g K m i) j (K .mk c)) s) i j (K .mk c)
-        e = rw tb′ at (next-entry g K ok m0 s (t .fine) i j (K .mk c) l n (λ z. tb (sym tb′ ∙ z)) (ok .laws .mk-good2 c cN c0) (ok .laws .mk-lt c cN) (new′ new))
+        e = rw tb′ at (next-entry g K ok m0 s (t .fine) i j (K .mk c) l n (λ z. tb (sym tb′ ∙ z)) (rw (tb′, still-refs img s t (tab g K m i)) one) alone′ (ok .laws .mk-good2 c cN c0) (ok .laws .mk-lt c cN) (λ z. ok .laws .mk-own c cN) (new′ new))
 
         lit : (x : ℕ) → x < g .C → gread g K (mem (g .C) (apply (g .C) (entryStore g (tab g K m i) j (K .mk c)) s)) i j x ≡ getD (around (g .C) o bs) x 0
         lit x q = e .read x q ∙ rw (mc, ok .laws .mk-flag c cN) (shown-some c (ms c x) c0) ∙ body x q
 
     -- the data cluster under a zero mark may hold anything
-    marked-fill : dat g K (mem (g .C) img) i j ≢ 0 → K .flag (l2 g (mem (g .C) img) (tab g K (mem (g .C) img) i) j) ≢ 0 → (vs : List ℕ) → 0 + length vs ≤ g .C → Small vs
+    marked-fill : dat g K (mem (g .C) img) i j ≢ 0 → refsOf g K (mem (g .C) img) (dat g K (mem (g .C) img) i j) ≤ 1 → K .flag (l2 g (mem (g .C) img) (tab g K (mem (g .C) img) i) j) ≢ 0 → (vs : List ℕ) → 0 + length vs ≤ g .C → Small vs
         → Still img (sets img (dat g K (mem (g .C) img) i j * g .C + 0) vs)
         × Stored (g .C) (mem (g .C) img) (mem (g .C) (sets img (dat g K (mem (g .C) img) i j * g .C + 0) vs)) (dat g K (mem (g .C) img) i j) 0 vs
     unfolding SameGuest
-    marked-fill d f vs h p = (
+    marked-fill d one f vs h p = (
       record {
-        fine = ok-next g K ok m0 img c 0 vs k d p st (r .0 .rts) (keep-sound g K ok m m′ s (r .0) (λ x q. omega (arith, s .inv .covered x q, r .1 x q)));
+        fine = ok-next g K ok m0 img c 0 vs k d (away g K ok m0 m c (dat-fix (g .L) (g .E) (fix g m) (tab g K m) (dat g K m) i j l n d one)) p st (r .0 .rts) (keep-sound g K ok m m′ s (r .0) (λ x q. omega (arith, s .inv .covered x q, r .1 x q)));
         keep = r .0;
         reads = λ a b x e q w. see a b x e q w (pair-or a b i j);
       },
@@ -293,7 +300,7 @@ module _ (g : Geo) (K : Codec) (ok : GeoOk g K) (m0 : ℕ → ℕ → ℕ) where
 
         r : Keep g K m m′ × ((x : ℕ) → x < g .N → cnt g m′ x ≡ cnt g m x)
             × ((a b x : ℕ) → a < g .L → b < g .E → x < g .C → (a ≢ i) ⊎ (b ≢ j) → gread g K m′ a b x ≡ gread g K m a b x)
-        r = data-step g K ok m s m′ (next-small g K ok m0 img k c 0 vs cN h p) i j l n d (st .cluster)
+        r = data-step g K ok m s m′ (next-small g K ok m0 img k c 0 vs cN h p) i j l n d one (st .cluster)
 
         ff : K .flag (l2 g m′ (tab g K m′ i) j) ≢ 0
         ff = rw (keep-tab g K ok m m′ (r .0) i l, r .0 .l2s i j l n (λ z. d (dat-none g K m i j z))) f
@@ -303,12 +310,14 @@ module _ (g : Geo) (K : Codec) (ok : GeoOk g K) (m0 : ℕ → ℕ → ℕ) where
         see a b x e q w (inl u) = rw (u .0, u .1) (gread-marked g K m′ i j x ff ∙ sym (gread-marked g K m i j x f))
 
     -- a place under a zero mark: the whole cluster, then the entry
-    pub marked-run : dat g K (mem (g .C) img) i j ≢ 0 → K .flag (l2 g (mem (g .C) img) (tab g K (mem (g .C) img) i) j) ≢ 0
+    pub marked-run : dat g K (mem (g .C) img) i j ≢ 0
+        → refsOf g K (mem (g .C) img) (tab g K (mem (g .C) img) i) ≤ 1 → refsOf g K (mem (g .C) img) (dat g K (mem (g .C) img) i j) ≤ 1
+        → K .flag (l2 g (mem (g .C) img) (tab g K (mem (g .C) img) i) j) ≢ 0
         → Run (g .C) (MidW i j o bs img)
         (fill (dat g K (mem (g .C) img) i j) 0 (around (g .C) o bs) ++ (entryStore g (tab g K (mem (g .C) img) i) j (K .mk (dat g K (mem (g .C) img) i j)) ∷ []))
         img (EndW i j o bs img)
     unfolding starts
-    marked-run d f =
+    marked-run d one alone f =
         run-append (g .C) (MidW i j o bs img) _ _ img P (EndW i j o bs img) (entry-whole g _ _ _)
         (run-fill (g .C) (MidW i j o bs img) c 0 A img P
         (λ vs x. let r = filled vs (omega (arith, x .len, lA)) (small-mix _ img A vs (k .small) smA x) in (r .0 .fine, inl (r .0 .reads)))
@@ -316,7 +325,7 @@ module _ (g : Geo) (K : Codec) (ok : GeoOk g K) (m0 : ℕ → ℕ → ℕ) where
         (r .0, λ x q. from-start (mem (g .C) (sets img (c * g .C + 0) A) c) A x (r .1 .inside x (omega (arith, lA))))))
         (λ s p. run-cons (g .C) (MidW i j o bs img) _ _ s (EndW i j o bs img) (entry-whole g _ _ _) (p .0 .fine, inl (p .0 .reads))
         (let r : EndW i j o bs img (apply (g .C) (entryStore g (tab g K m i) j (K .mk c)) s) =
-        commit s (p .0) c cN d tb (inr (sym (keep-dat g K ok m (mem (g .C) s) (p .0 .keep) i j l n))) (p .1) (λ x q. gread-marked g K m i j x f) in
+        commit s (p .0) c cN d tb one (λ z. alone) (inr (sym (keep-dat g K ok m (mem (g .C) s) (p .0 .keep) i j l n))) (p .1) (λ x q. gread-marked g K m i j x f) in
         run-none (g .C) (MidW i j o bs img) _ (EndW i j o bs img) (r .0, inr (r .1)) r))
       where
         m : ℕ → ℕ → ℕ
@@ -345,15 +354,16 @@ module _ (g : Geo) (K : Codec) (ok : GeoOk g K) (m0 : ℕ → ℕ → ℕ) where
 
         filled : (vs : List ℕ) → 0 + length vs ≤ g .C → Small vs
             → Still img (sets img (c * g .C + 0) vs) × Stored (g .C) m (mem (g .C) (sets img (c * g .C + 0) vs)) c 0 vs
-        filled vs h p = marked-fill d f vs h p
+        filled vs h p = marked-fill d alone f vs h p
 
     -- no place: the count, the whole cluster, the entry
     pub alloc-run : (c : ℕ) → c < g .N → cnt g (mem (g .C) img) c ≡ 0 → tab g K (mem (g .C) img) i ≢ 0 → dat g K (mem (g .C) img) i j ≡ 0
+        → refsOf g K (mem (g .C) img) (tab g K (mem (g .C) img) i) ≤ 1
         → Run (g .C) (MidW i j o bs img)
         (countStore g (mem (g .C) img) c 1 ∷ (fill c 0 (around (g .C) o bs) ++ (entryStore g (tab g K (mem (g .C) img) i) j (K .mk c) ∷ [])))
         img (EndW i j o bs img)
     unfolding starts
-    alloc-run c cN z tb d =
+    alloc-run c cN z tb d one =
         run-cons (g .C) (MidW i j o bs img) _ _ img (EndW i j o bs img) (count-whole g _ _ _) (k, inl (st₀ .reads))
         (run-append (g .C) (MidW i j o bs img) _ _ s₁ P (EndW i j o bs img) (entry-whole g _ _ _)
         (run-fill (g .C) (MidW i j o bs img) c 0 A s₁ P
@@ -362,7 +372,7 @@ module _ (g : Geo) (K : Codec) (ok : GeoOk g K) (m0 : ℕ → ℕ → ℕ) where
         (r .0, r .1 c cN ∙ st₁ .1, λ x q. from-start (mem (g .C) (sets s₁ (c * g .C + 0) A) c) A x (r .2 .inside x (omega (arith, lA))))))
         (λ s p. run-cons (g .C) (MidW i j o bs img) _ _ s (EndW i j o bs img) (entry-whole g _ _ _) (p .0 .fine, inl (p .0 .reads))
         (let r : EndW i j o bs img (apply (g .C) (entryStore g (tab g K m i) j (K .mk c)) s) =
-        commit s (p .0) c cN c0 tb (inl (still-refs img s (p .0) c ∙ free, omega (arith, p .1))) (p .2) (λ x q. gread-none g K m i j x d) in
+        commit s (p .0) c cN c0 tb one (λ y. absurd (y d)) (inl (still-refs img s (p .0) c ∙ free, omega (arith, p .1))) (p .2) (λ x q. gread-none g K m i j x d) in
         run-none (g .C) (MidW i j o bs img) _ (EndW i j o bs img) (r .0, inr (r .1)) r)))
       where
         m : ℕ → ℕ → ℕ
@@ -410,12 +420,13 @@ module _ (g : Geo) (K : Codec) (ok : GeoOk g K) (m0 : ℕ → ℕ → ℕ) where
       pub none : (b : ℕ) → b < g .E → b ≢ j → l2 g (mem (g .C) s) t b ≡ 0
       pub body : (x : ℕ) → x < g .C → mem (g .C) s c x ≡ getD (around (g .C) o bs) x 0
 
-    link-commit : (t c : ℕ) → t < g .N → c < g .N → t ≢ c → cnt g (mem (g .C) img) t ≡ 0 → cnt g (mem (g .C) img) c ≡ 0 → tab g K (mem (g .C) img) i ≡ 0
+    link-commit : Has g i → (t c : ℕ) → t < g .N → c < g .N → t ≢ c → cnt g (mem (g .C) img) t ≡ 0 → cnt g (mem (g .C) img) c ≡ 0 → tab g K (mem (g .C) img) i ≡ 0
         → (s : List ℕ) → Ready t c s → EndW i j o bs img (apply (g .C) (linkStore g i (K .mk t)) s)
     unfolding SameGuest apply linkStore
-    link-commit t c tN cN tc zt zc z s r = (
-      ok-next g K ok m0 s w p (enc 8 (K .mk t)) (r .still .fine) w0 (small-enc 8 (K .mk t)) st (link-rt g K ok ms ss m′ sm′ i j t l n z′ tN ft st)
-          (link-sound g K ok ms ss m′ sm′ i j t l n z′ tN ft st c (ap (K .clus) (r .entry) ∙ mc) tc fc (omega (arith, r .count-t)) (omega (arith, r .count-c))
+    link-commit hi t c tN cN tc zt zc z s r = (
+      ok-next g K ok m0 s w p (enc 8 (K .mk t)) (r .still .fine) w0
+          (λ q b. link-away g K ok ms ss m′ sm′ i j t l hi n z′ tN ft st (g .T) q (omega arith) b (λ e. omega (arith, tree-in g K ok i l, e))) (small-enc 8 (K .mk t)) st (link-rt g K ok ms ss m′ sm′ i j t l hi n z′ tN ft st)
+          (link-sound g K ok ms ss m′ sm′ i j t l hi n z′ tN ft st c (ap (K .clus) (r .entry) ∙ mc) (ap (K .own) (r .entry) ∙ ok .laws .mk-own c cN) tc fc (omega (arith, r .count-t)) (omega (arith, r .count-c))
           (λ b q. goods b q (ℕ-discrete b j)) (λ b q d. ap (K .clus) (r .none b q d) ∙ ok .laws .zero-clus)),
       record {
         other = λ a b x e q h d. see a b x e q h d (ℕ-discrete a i);
@@ -434,22 +445,25 @@ module _ (g : Geo) (K : Codec) (ok : GeoOk g K) (m0 : ℕ → ℕ → ℕ) where
         ss = r .still .fine .sound
 
         w : ℕ
-        w = g .l1c + i / g .E
+        w = row g i
 
         p : ℕ
-        p = 8 * (i % g .E)
+        p = 8 * col g i
 
-        iE : i / g .E < g .l1n
-        iE = div-lt-iff-lt-mul (ok .epos) .1 (omega (arith, ok .l1fit))
+        iE : i % g .M / g .E < g .span (i / g .M)
+        iE = row-in g K ok i l hi
 
         wN : w < g .N
-        wN = omega (arith, iE, ok .l1in)
+        wN = row-N g K ok i l hi
+
+        tI : i / g .M < suc (g .T)
+        tI = omega (arith, tree-in g K ok i l)
 
         w0 : w ≢ 0
-        w0 = l1-0 g ms w (i / g .E) iE (fix-one g K ok ms ss w wN) refl
+        w0 = l1-0 g ms w (i / g .M) (i % g .M / g .E) tI iE (fix-one g K ok ms ss w wN) refl
 
         fits : p + length (enc 8 (K .mk t)) ≤ g .C
-        fits = omega (arith, ok .c8, length-enc 8 (K .mk t), mod-lt i (ok .epos))
+        fits = omega (arith, ok .c8, length-enc 8 (K .mk t), mod-lt (i % g .M) (ok .epos))
 
         m′ : ℕ → ℕ → ℕ
         m′ = mem (g .C) (sets s (w * g .C + p) (enc 8 (K .mk t)))
@@ -480,16 +494,16 @@ module _ (g : Geo) (K : Codec) (ok : GeoOk g K) (m0 : ℕ → ℕ → ℕ) where
         goods b q (no d) = rw (r .none b q d) (ok .laws .zero-good2)
 
         see : (a b x : ℕ) → a < g .L → b < g .E → x < g .C → (a ≢ i) ⊎ (b ≢ j) → Dec (a ≡ i) → gread g K m′ a b x ≡ gread g K m a b x
-        see a b x e q h d (no u) = link-reads g K ok ms ss m′ sm′ i j t l n z′ tN ft st a b x e q h u ∙ r .still .reads a b x e q h
+        see a b x e q h d (no u) = link-reads g K ok ms ss m′ sm′ i j t l hi n z′ tN ft st a b x e q h u ∙ r .still .reads a b x e q h
         see a b x e q h (inl d) (yes u) = absurd (d u)
         see a b x e q h (inr d) (yes u) =
-            rw u (link-zeros g K ok ms ss m′ sm′ i j t l n z′ tN ft st b x q (ap (K .clus) (r .none b q d) ∙ ok .laws .zero-clus) ∙ sym (gread-none g K m i b x (dat-none g K m i b z)))
+            rw u (link-zeros g K ok ms ss m′ sm′ i j t l hi n z′ tN ft st b x q (ap (K .clus) (r .none b q d) ∙ ok .laws .zero-clus) ∙ sym (gread-none g K m i b x (dat-none g K m i b z)))
 
         cw : K .clus (l2 g ms t j) ≢ w
-        cw e = omega (arith, fix-l1 g ms w (i / g .E) iE refl, refs-fix (g .L) (g .E) (fix g ms) (tab g K ms) (dat g K ms) c, fc, ap (fix g ms) (sym mc ∙ ap (K .clus) (sym (r .entry)) ∙ e))
+        cw e = omega (arith, fix-l1 g ms w (i / g .M) (i % g .M / g .E) tI iE refl, refs-fix (g .L) (g .E) (fix g ms) (tab g K ms) (dat g K ms) c, fc, ap (fix g ms) (sym mc ∙ ap (K .clus) (sym (r .entry)) ∙ e))
 
         lit : (x : ℕ) → x < g .C → gread g K m′ i j x ≡ getD (around (g .C) o bs) x 0
-        lit x q = link-read g K ok ms ss m′ sm′ i j t l n z′ tN ft st x q cw ∙ rw (r .entry, mc, ok .laws .mk-flag c cN) (shown-some c (ms c x) c0) ∙ r .body x q
+        lit x q = link-read g K ok ms ss m′ sm′ i j t l hi n z′ tN ft st x q cw ∙ rw (r .entry, mc, ok .laws .mk-flag c cN) (shown-some c (ms c x) c0) ∙ r .body x q
 
     module _ (t c : ℕ) (tN : t < g .N) (cN : c < g .N) (tc : t ≢ c) (zt : cnt g (mem (g .C) img) t ≡ 0) (zc : cnt g (mem (g .C) img) c ≡ 0) where
       free-t : refsOf g K (mem (g .C) img) t ≡ 0
@@ -533,10 +547,10 @@ module _ (g : Geo) (K : Codec) (ok : GeoOk g K) (m0 : ℕ → ℕ → ℕ) where
           r : Still img (sets s (t * g .C + 8 * j) (enc 8 (K .mk c))) × ((x : ℕ) → x < g .N → cnt g m′ x ≡ cnt g ms x) × Stored (g .C) ms m′ t (8 * j) (enc 8 (K .mk c))
           r = still-fill img s (p .still) t (8 * j) (enc 8 (K .mk c)) tN (omega (arith, ok .c8, length-enc 8 (K .mk c))) (small-enc 8 (K .mk c)) free-t
 
-      last : tab g K (mem (g .C) img) i ≡ 0 → (s : List ℕ) → P₂ s → Run (g .C) (MidW i j o bs img) (entryStore g t j (K .mk c) ∷ (linkStore g i (K .mk t) ∷ [])) s (EndW i j o bs img)
-      last z s p =
+      last : Has g i → tab g K (mem (g .C) img) i ≡ 0 → (s : List ℕ) → P₂ s → Run (g .C) (MidW i j o bs img) (entryStore g t j (K .mk c) ∷ (linkStore g i (K .mk t) ∷ [])) s (EndW i j o bs img)
+      last hi z s p =
           let e : Ready t c (apply (g .C) (entryStore g t j (K .mk c)) s) = step-entry s p in
-          let f : EndW i j o bs img (apply (g .C) (linkStore g i (K .mk t)) (apply (g .C) (entryStore g t j (K .mk c)) s)) = link-commit t c tN cN tc zt zc z _ e in
+          let f : EndW i j o bs img (apply (g .C) (linkStore g i (K .mk t)) (apply (g .C) (entryStore g t j (K .mk c)) s)) = link-commit hi t c tN cN tc zt zc z _ e in
           run-cons (g .C) (MidW i j o bs img) _ _ s (EndW i j o bs img) (entry-whole g _ _ _) (p .still .fine, inl (p .still .reads))
           (run-cons (g .C) (MidW i j o bs img) _ _ _ (EndW i j o bs img) (link-whole g _ _) (e .still .fine, inl (e .still .reads))
           (run-none (g .C) (MidW i j o bs img) _ (EndW i j o bs img) (f .0, inr (f .1)) f))
@@ -613,12 +627,12 @@ module _ (g : Geo) (K : Codec) (ok : GeoOk g K) (m0 : ℕ → ℕ → ℕ) where
           filled vs h q = still-fill img s₁ (st₁ .0) t 0 vs tN h q free-t
 
       -- no table: its count, its zeros, the data's count, the data's cluster, the L2 entry, the L1 entry
-      pub table-run : tab g K (mem (g .C) img) i ≡ 0
+      pub table-run : Has g i → tab g K (mem (g .C) img) i ≡ 0
           → Run (g .C) (MidW i j o bs img)
           ((countStore g (mem (g .C) img) t 1 ∷ fill t 0 (replicate (g .C) 0))
           ++ ((countStore g (mem (g .C) img) c 1 ∷ fill c 0 (around (g .C) o bs)) ++ (entryStore g t j (K .mk c) ∷ (linkStore g i (K .mk t) ∷ []))))
           img (EndW i j o bs img)
       unfolding starts
-      table-run z =
+      table-run hi z =
           run-append (g .C) (MidW i j o bs img) _ _ img P₁ (EndW i j o bs img) (count-whole g _ _ _) first
-          (λ s p. run-append (g .C) (MidW i j o bs img) _ _ s P₂ (EndW i j o bs img) (entry-whole g _ _ _) (middle s p) (last z))
+          (λ s p. run-append (g .C) (MidW i j o bs img) _ _ s P₂ (EndW i j o bs img) (entry-whole g _ _ _) (middle s p) (last hi z))

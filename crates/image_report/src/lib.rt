@@ -48,10 +48,12 @@ fn leaked(fd: i32, v: Verdict) -> bool {
     match v {
         Verdict::Sound => field(fd, 0),
         Verdict::Leaks(n) => field(fd, n as u64),
-        Verdict::BadL1(_) => no_field(fd),
-        Verdict::BadL2(_, _) => no_field(fd),
+        Verdict::BadL1(_, _) => no_field(fd),
+        Verdict::BadL2(_, _, _) => no_field(fd),
         Verdict::Shared(_) => no_field(fd),
         Verdict::Short(_) => no_field(fd),
+        Verdict::MarkL1(_) => no_field(fd),
+        Verdict::MarkL2(_, _) => no_field(fd),
         Verdict::Refused(_) => no_field(fd),
     }
 }
@@ -65,19 +67,35 @@ fn clusters_line(fd: i32, used: usize, free: usize, v: Verdict) -> bool {
         && line_end(fd)
 }
 
-// A damaged image, with what is named.
+// A damaged image, with what is named: a bad entry or one with a wrong mark, by its L1 index.
 fn entry_words(fd: i32, i: usize) -> bool {
     io::write_all(fd, b"\tdamaged\tentry") && field(fd, i as u64)
+}
+
+fn mark_words(fd: i32, i: usize) -> bool {
+    io::write_all(fd, b"\tdamaged\tmark") && field(fd, i as u64)
+}
+
+// The snapshot whose L1 table has number t; nothing for the active one.
+fn snapshot_words(fd: i32, t: usize) -> bool {
+    if t == 0 {
+        return true;
+    }
+    field(fd, (t - 1) as u64)
 }
 
 fn verdict_words(fd: i32, v: Verdict) -> bool {
     match v {
         Verdict::Sound => io::write_all(fd, b"\tsound"),
         Verdict::Leaks(n) => io::write_all(fd, b"\tleaks") && field(fd, n as u64),
-        Verdict::BadL1(i) => entry_words(fd, i) && no_field(fd),
-        Verdict::BadL2(i, j) => entry_words(fd, i) && field(fd, j as u64),
+        Verdict::BadL1(t, i) => entry_words(fd, i) && no_field(fd) && snapshot_words(fd, t),
+        Verdict::BadL2(t, i, j) => {
+            entry_words(fd, i) && field(fd, j as u64) && snapshot_words(fd, t)
+        }
         Verdict::Shared(k) => io::write_all(fd, b"\tdamaged\tshared") && field(fd, k as u64),
         Verdict::Short(k) => io::write_all(fd, b"\tdamaged\tshort") && field(fd, k as u64),
+        Verdict::MarkL1(i) => mark_words(fd, i) && no_field(fd),
+        Verdict::MarkL2(i, j) => mark_words(fd, i) && field(fd, j as u64),
         Verdict::Refused(k) => field(fd, k as u64),
     }
 }
@@ -90,11 +108,11 @@ fn verdict_line(fd: i32, v: Verdict) -> bool {
 fn accepted(fd: i32, image: &[u8], g: Geometry, v: Verdict) -> bool
     requires { ⌜ Opened g (now image) ⌝ }
 {
-    let free = qcow2_free::number::free_clusters(image, g);
+    let free = qcow2_freecount::free_clusters(image, g);
     image_line(fd, g) && clusters_line(fd, g.clusters - free, free, v) && verdict_line(fd, v)
 }
 
-// Writes what is to be said of an image. The scratch has a byte for each cluster of it.
+// Writes what is to be said of an image. The scratch has two bytes for each cluster of it.
 fn report(fd: i32, image: &[u8], scratch: &mut [u8]) -> bool {
     let v = qcow2::check(image, scratch);
     let j = qcow2_header::judge(image);
@@ -117,7 +135,7 @@ fn report_read(fd: i32, input: &[u8], scratch: &mut [u8]) -> bool {
 // write fails, standard error says so; a failed read leaves nothing written.
 pub fn tell(from: i32, name: &[u8], to: i32) {
     let mut input = [0u8; 65537];
-    let mut scratch = [0u8; 128];
+    let mut scratch = [0u8; 256];
     let Input::Bytes(n) = input::read_image(from, &mut input) else {
         os::fail(name);
         return;

@@ -8,8 +8,6 @@ ghost use Rattle.packed.specs.Figures.{Ready, Tallied};
 use packed::Compared;
 
 mod each;
-mod groups;
-mod whole;
 
 // Numbers of at most 8 bits, by groups of 128 bytes, a length that the compiler knows, and one by one those that are left.
 fn narrow(block: &[u8], order: u32, figures: &[u8]) -> Compared
@@ -36,13 +34,13 @@ pub fn compare(block: &[u8], order: u32, figures: &[u8]) -> Compared
     ensures { λ r. ⌜ (r .unlike ≡ count (unlikeAt order (now (block .entry)) (now (figures .entry))) 0 (length (now (figures .entry)))) × (r .under ≡ count (underAt order (now (block .entry)) (now (figures .entry))) 0 (length (now (figures .entry)))) ⌝ }
 {
     if order == 4 {
-        return whole::numbers16(block, figures);
+        return packed_whole::numbers16(block, figures);
     }
     if order == 5 {
-        return groups::numbers32(block, figures);
+        return packed_groups::numbers32(block, figures);
     }
     if order == 6 {
-        return whole::numbers64(block, figures);
+        return packed_whole::numbers64(block, figures);
     }
     narrow(block, order, figures)
 }

@@ -29,27 +29,27 @@ module _ (s : List ℕ) (k : ℕ) (e : opened s ≡ Turned k) where
   unfolding translate
   translate-refused x = rw (refused-is s k e .0) (unless-refused k Refused _ (refused-is s k e .1))
 
-  pub number-refused : (x len : ℕ) → readNumber s x len ≡ k
+  pub number-refused : (t x len : ℕ) → readNumber s t x len ≡ k
   unfolding readNumber
-  number-refused x len = rw (refused-is s k e .0) (unless-refused k (λ n. n) _ (refused-is s k e .1))
+  number-refused t x len = rw (refused-is s k e .0) (unless-refused k (λ n. n) _ (refused-is s k e .1))
 
-  pub into-refused : (x : ℕ) (o : List ℕ) → readInto s x o ≡ o
+  pub into-refused : (t x : ℕ) (o : List ℕ) → readInto s t x o ≡ o
   unfolding readInto
-  into-refused x o = rw (ne-eqb (readNumber s x (length o)) 0 (λ z. refused-is s k e .1 (sym (number-refused x (length o)) ∙ z)))
+  into-refused t x o = rw (ne-eqb (readNumber s t x (length o)) 0 (λ z. refused-is s k e .1 (sym (number-refused t x (length o)) ∙ z)))
 
   pub place-refused : (x : ℕ) → inPlace s x ≡ []
   unfolding inPlace foundPart
   place-refused x = rw (translate-refused x)
 
-  runs-number : (x len : ℕ) → runsNumber s x len ≡ k
+  runs-number : (x len : ℕ) → runsNumber s 0 x len ≡ k
   unfolding runsNumber
   runs-number x len = rw (refused-is s k e .0) (unless-refused k (λ n. n) _ (refused-is s k e .1))
 
-  pub runs-refused : (x len n : ℕ) → listRuns s x len n ≡ NotListed k
+  pub runs-refused : (x len n : ℕ) → listRuns s 0 x len n ≡ NotListed k
   unfolding listRuns
   runs-refused x len n = rw (runs-number x len) (unless-refused k NotListed _ (refused-is s k e .1))
 
-  pub rows-refused : (x len : ℕ) (o : List ℕ) → runsInto s x len o ≡ o
+  pub rows-refused : (x len : ℕ) (o : List ℕ) → runsInto s 0 x len o ≡ o
   unfolding runsInto
   rows-refused x len o = rw (runs-number x len, ne-eqb k 0 (refused-is s k e .1))
 

@@ -16,8 +16,7 @@ use Rattle.qcow2_spec.specs.Runs.{moved, sameFound}
 use Rattle.qcow2_spec.specs.declared.Found.{Found}
 use Rattle.qcow2_spec.specs.declared.Found.the-variants.{Host, Zeros, Absent}
 use Rattle.qcow2_spec.proofs.Runs.{same-self, same-is}
-use Rattle.qcow2_entry.specs.Plain.{plain, marked, entryFound}
-use Rattle.qcow2_entry.proofs.Plain.{plain-parts}
+use Rattle.qcow2_entry.specs.Plain.{bare, plain, marked, entryFound}
 use Rattle.qcow2_entry.proofs.Marked.{found-plain, found-other, found-empty, found-filled, found-marked, found-unmarked}
 use Rattle.qcow2_alike.specs.Alike.{entryGoes, entriesEnd}
 
@@ -76,21 +75,21 @@ module _ (v b n : ℕ) (l : List ℕ) (from k e : ℕ) (q : e ≡ be64 l (8 * k)
     host-not p = rw (← q) (same-not _ _ (found-other v (2 ^ b) n e 0 _ p))
 
     module _ (low : 9 ≤ b) (most : n ≤ mostLength) where
-      pub host-goes : plain (2 ^ b) n e ≡ true → e ≡ 9223372036854775808 + (h + (k - from) * 2 ^ b) → entryGoes v (2 ^ b) n l (Host h) from k ≡ true
+      pub host-goes : plain (2 ^ b) n e ≡ true → bare e ≡ h + (k - from) * 2 ^ b → entryGoes v (2 ^ b) n l (Host h) from k ≡ true
       unfolding entryGoes
       host-goes p d =
-          let z : e - 2 ^ 63 + 0 ≡ h + (k - from) * 2 ^ b = omega arith in
+          let z : bare e + 0 ≡ h + (k - from) * 2 ^ b = omega arith in
           rw (← q, found-plain v b n e 0 low most p, z) (same-self _)
 
-      pub host-apart : (e ≡ 9223372036854775808 + (h + (k - from) * 2 ^ b) → ⊥) → entryGoes v (2 ^ b) n l (Host h) from k ≡ false
+      pub host-apart : (bare e ≡ h + (k - from) * 2 ^ b → ⊥) → entryGoes v (2 ^ b) n l (Host h) from k ≡ false
       unfolding entryGoes
       host-apart d = rw (← q) (same-not _ _ (λ y. go (plain (2 ^ b) n e) refl y))
         where
           go : (t : Bool) → plain (2 ^ b) n e ≡ t → entryFound v (2 ^ b) n e 0 ≡ Host (h + (k - from) * 2 ^ b) → ⊥
           go true p y =
-              let z : Host (e - 2 ^ 63 + 0) ≡ Host (h + (k - from) * 2 ^ b) = sym (found-plain v b n e 0 low most p) ∙ y in
-              let w : e - 2 ^ 63 + 0 ≡ h + (k - from) * 2 ^ b = cc in
-              d (omega (arith, w, plain-parts b n e p .high))
+              let z : Host (bare e + 0) ≡ Host (h + (k - from) * 2 ^ b) = sym (found-plain v b n e 0 low most p) ∙ y in
+              let w : bare e + 0 ≡ h + (k - from) * 2 ^ b = cc in
+              d (omega (arith, w))
           go false p y = found-other v (2 ^ b) n e 0 _ p y
 
   -- from no allocation
@@ -116,8 +115,8 @@ module _ (v b n : ℕ) (l : List ℕ) (from k e : ℕ) (q : e ≡ be64 l (8 * k)
   unfolding entryGoes
   still-goes f s = rw (← q, s ((k - from) * 2 ^ b))
 
--- the host offset that the next entry must have
-pub next-host : (C h from k : ℕ) → from ≤ k → 9223372036854775808 + (h + (k - from) * C) + C ≡ 9223372036854775808 + (h + (k + 1 - from) * C)
+-- twice the host offset that the next entry must have
+pub next-host : (C h from k : ℕ) → from ≤ k → 2 * (h + (k - from) * C) + 2 * C ≡ 2 * (h + (k + 1 - from) * C)
 next-host C h from k l =
     let d : k + 1 - from ≡ k - from + 1 = omega arith in
     rw d (omega (arith, add-mul (k - from) 1 C, one-mul C))

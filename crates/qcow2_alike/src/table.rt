@@ -6,21 +6,22 @@ ghost use Rattle.qcow2_spec.specs.declared.Found.the-variants.{Host, Zeros, Abs
 ghost use Rattle.qcow2_alike.specs.Alike.{Entries, entriesEnd};
 use qcow2_spec::Found;
 
-// The first of the entries from an index to an end that does not go on from host offset h. A plain entry is compared as it stands.
+// The first of the entries from an index to an end that does not go on from host offset h. Twice the entries are
+// compared, so that bit 63 does not count and an entry is one load.
 fn host_end(table: &[u8], from: usize, end: usize, h: u64, n: u64, bits: u32) -> usize
     requires { ⌜ (Entries bits n from end (now table)) × (h < 9223372036854775808) ⌝ }
     ensures { λ r. ⌜ ((v : ℕ) → r ≡ entriesEnd v (2 ^ bits) n (now (table .entry)) (Host h) from from end) ⌝ }
 {
-    let c = power::power(bits);
-    let mut want = 9223372036854775808 + h;
+    let step = 2 * power::power(bits);
+    let mut want = 2 * h;
     let mut k = from;
     while k < end {
         let e = endian::load64(table, 8 * k);
-        if e != want {
+        if qcow2_entry::twice(e) != want {
             return k;
         }
         if qcow2_entry::is_plain(e, n, bits) {
-            want += c;
+            want += step;
             k += 1;
         } else {
             return k;

@@ -1,6 +1,6 @@
 // The calls for programs in C or Rust: numbers and byte slices only. include/qcow2_core.h declares them.
 ghost use mathlib.Core.Path.{_≡_};
-ghost use Prim.Native.Nat.{_/_};
+ghost use Prim.Native.Nat.{suc, _/_};
 ghost use lib.ListN.{length};
 ghost use Rattle.tally.specs.Tally.{difference};
 ghost use Rattle.units.specs.Plan.{outcome, after};
@@ -9,9 +9,7 @@ ghost use Rattle.qcow2_spec.specs.Runs.{foundCode, foundHost, listRuns, runsInt
 ghost use Rattle.qcow2_spec.specs.Store.{writePlan, discardPlan};
 ghost use Rattle.qcow2_spec.specs.References.{scratchLeft};
 ghost use Rattle.qcow2_spec.specs.Check.{check, repairPlan};
-ghost use Rattle.qcow2_c.specs.Codes.{listedCode, listedRows, outcomeCode, outcomeUnits, verdictCode, verdictFirst, verdictSecond};
-
-mod codes;
+ghost use Rattle.qcow2_codes.specs.Codes.{listedCode, listedRows, outcomeCode, outcomeUnits, verdictCode, verdictFirst, verdictSecond, verdictThird};
 
 #[no_mangle]
 pub extern "C" fn qcow2_translate(image: &[u8], offset: u64, host: &mut u64) -> u32
@@ -24,9 +22,21 @@ pub extern "C" fn qcow2_translate(image: &[u8], offset: u64, host: &mut u64) -> 
 
 #[no_mangle]
 pub extern "C" fn qcow2_read(image: &[u8], offset: u64, out: &mut [u8]) -> u32
-    ensures { λ r. ⌜ (r ≡ readNumber (now (image .entry)) offset (length (now (out .entry)))) × (now (out .exit) ≡ readInto (now (image .entry)) offset (now (out .entry))) ⌝ }
+    ensures { λ r. ⌜ (r ≡ readNumber (now (image .entry)) 0 offset (length (now (out .entry)))) × (now (out .exit) ≡ readInto (now (image .entry)) 0 offset (now (out .entry))) ⌝ }
 {
     qcow2::read(image, offset, out) as u32
+}
+
+#[no_mangle]
+pub extern "C" fn qcow2_read_snapshot(
+    image: &[u8],
+    snapshot: u64,
+    offset: u64,
+    out: &mut [u8],
+) -> u32
+    ensures { λ r. ⌜ (r ≡ readNumber (now (image .entry)) (suc snapshot) offset (length (now (out .entry)))) × (now (out .exit) ≡ readInto (now (image .entry)) (suc snapshot) offset (now (out .entry))) ⌝ }
+{
+    qcow2::read_snapshot(image, snapshot, offset, out) as u32
 }
 
 // How many guest bytes lie in place; they start at the host offset that qcow2_translate gives.
@@ -46,11 +56,11 @@ pub extern "C" fn qcow2_runs(
     rows: &mut [u64],
     count: &mut u64,
 ) -> u32
-    ensures { λ r. ⌜ ((r ≡ listedCode (listRuns (now (image .entry)) offset len (length (now (rows .entry)) / 3))) × (now (count .exit) ≡ listedRows (listRuns (now (image .entry)) offset len (length (now (rows .entry)) / 3)))) × (now (rows .exit) ≡ runsInto (now (image .entry)) offset len (now (rows .entry))) ⌝ }
+    ensures { λ r. ⌜ ((r ≡ listedCode (listRuns (now (image .entry)) 0 offset len (length (now (rows .entry)) / 3))) × (now (count .exit) ≡ listedRows (listRuns (now (image .entry)) 0 offset len (length (now (rows .entry)) / 3)))) × (now (rows .exit) ≡ runsInto (now (image .entry)) 0 offset len (now (rows .entry))) ⌝ }
 {
     let l = qcow2::runs(image, offset, len, rows);
-    *count = codes::listed_rows(l);
-    codes::listed_code(l)
+    *count = qcow2_codes::listed_rows(l);
+    qcow2_codes::listed_code(l)
 }
 
 #[no_mangle]
@@ -64,8 +74,8 @@ pub extern "C" fn qcow2_write(
     ensures { λ r. ⌜ ((r ≡ outcomeCode (outcome (writePlan (now (image .entry)) offset (now (src .entry))) allowance)) × (now (units .exit) ≡ outcomeUnits (outcome (writePlan (now (image .entry)) offset (now (src .entry))) allowance))) × (now (image .exit) ≡ after (writePlan (now (image .entry)) offset (now (src .entry))) allowance (now (image .entry))) ⌝ }
 {
     let o = qcow2::write(image, offset, src, allowance as usize);
-    *units = codes::outcome_units(o);
-    codes::outcome_code(o)
+    *units = qcow2_codes::outcome_units(o);
+    qcow2_codes::outcome_code(o)
 }
 
 #[no_mangle]
@@ -78,8 +88,8 @@ pub extern "C" fn qcow2_discard(
     ensures { λ r. ⌜ ((r ≡ outcomeCode (outcome (discardPlan (now (image .entry)) cluster) allowance)) × (now (units .exit) ≡ outcomeUnits (outcome (discardPlan (now (image .entry)) cluster) allowance))) × (now (image .exit) ≡ after (discardPlan (now (image .entry)) cluster) allowance (now (image .entry))) ⌝ }
 {
     let o = qcow2::discard(image, cluster, allowance as usize);
-    *units = codes::outcome_units(o);
-    codes::outcome_code(o)
+    *units = qcow2_codes::outcome_units(o);
+    qcow2_codes::outcome_code(o)
 }
 
 #[no_mangle]
@@ -92,8 +102,8 @@ pub extern "C" fn qcow2_repair(
     ensures { λ r. ⌜ ((r ≡ outcomeCode (outcome (repairPlan (now (image .entry)) (length (now (scratch .entry)))) allowance)) × (now (units .exit) ≡ outcomeUnits (outcome (repairPlan (now (image .entry)) (length (now (scratch .entry)))) allowance))) × ((now (image .exit) ≡ after (repairPlan (now (image .entry)) (length (now (scratch .entry)))) allowance (now (image .entry))) × (now (scratch .exit) ≡ scratchLeft (now (image .entry)) (now (scratch .entry)))) ⌝ }
 {
     let o = qcow2::repair(image, scratch, allowance as usize);
-    *units = codes::outcome_units(o);
-    codes::outcome_code(o)
+    *units = qcow2_codes::outcome_units(o);
+    qcow2_codes::outcome_code(o)
 }
 
 #[no_mangle]
@@ -102,18 +112,20 @@ pub extern "C" fn qcow2_check(
     scratch: &mut [u8],
     first: &mut u64,
     second: &mut u64,
+    third: &mut u64,
 ) -> u32
-    ensures { λ r. ⌜ ((r ≡ verdictCode (check (now (image .entry)) (length (now (scratch .entry))))) × ((now (first .exit) ≡ verdictFirst (check (now (image .entry)) (length (now (scratch .entry))))) × (now (second .exit) ≡ verdictSecond (check (now (image .entry)) (length (now (scratch .entry))))))) × (now (scratch .exit) ≡ scratchLeft (now (image .entry)) (now (scratch .entry))) ⌝ }
+    ensures { λ r. ⌜ (((r ≡ verdictCode (check (now (image .entry)) (length (now (scratch .entry))))) × (now (first .exit) ≡ verdictFirst (check (now (image .entry)) (length (now (scratch .entry)))))) × ((now (second .exit) ≡ verdictSecond (check (now (image .entry)) (length (now (scratch .entry))))) × (now (third .exit) ≡ verdictThird (check (now (image .entry)) (length (now (scratch .entry))))))) × (now (scratch .exit) ≡ scratchLeft (now (image .entry)) (now (scratch .entry))) ⌝ }
 {
     let v = qcow2::check(image, scratch);
-    *first = codes::verdict_first(v);
-    *second = codes::verdict_second(v);
-    codes::verdict_code(v)
+    *first = qcow2_codes::verdict_first(v);
+    *second = qcow2_codes::verdict_second(v);
+    *third = qcow2_codes::verdict_third(v);
+    qcow2_codes::verdict_code(v)
 }
 
 // A stored count less the scratch's figure, with its sign: below zero the cluster is short.
 #[no_mangle]
-pub extern "C" fn qcow2_difference(stored: u64, figure: u8) -> i32
+pub extern "C" fn qcow2_difference(stored: u64, figure: u16) -> i32
     ensures { λ r. ⌜ r ≡ difference stored figure ⌝ }
 {
     tally::against::difference(stored, figure)

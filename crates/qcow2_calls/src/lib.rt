@@ -1,20 +1,33 @@
 // The calls once the header is accepted: what the request must be, then the way, then the work.
 ghost use mathlib.Core.Path.{_≡_};
-ghost use Prim.Native.Nat.{_^_, _≤_};
+ghost use Prim.Native.Nat.{suc, _^_, _≤_};
 ghost use lib.ListN.{length};
 ghost use Rattle.choice.specs.Pick.{ceilDiv};
 ghost use Rattle.units.specs.Plan.{Done};
-ghost use Rattle.qcow2_spec.specs.Opened.{Opened};
+ghost use Rattle.qcow2_spec.specs.Opened.{Active};
+ghost use Rattle.qcow2_spec.specs.Guest.{readNumber, readInto};
 ghost use Rattle.qcow2_spec.specs.Store.{writePlan, discardPlan};
 ghost use Rattle.qcow2_spec.specs.References.{scratchLeft};
 ghost use Rattle.qcow2_spec.specs.Check.{check as checked, repairPlan};
-ghost use Rattle.qcow2_spec.specs.Header.{mostBits, mostSize};
+ghost use Rattle.qcow2_spec.specs.Header.{mostBits, mostReach};
 use qcow2_spec::Geometry;
 use qcow2_spec::Verdict;
 use units::Outcome;
 
+// The bytes that a snapshot keeps: those of the disk that its L1 table reaches.
+pub fn read_snapshot(image: &[u8], g: Geometry, snapshot: u64, x: u64, out: &mut [u8]) -> u8
+    requires { ⌜ Active g (now image) ⌝ }
+    ensures { λ r. ⌜ (r ≡ readNumber (now (image .entry)) (suc snapshot) x (length (now (out .entry)))) × (now (out .exit) ≡ readInto (now (image .entry)) (suc snapshot) x (now (out .entry))) ⌝ }
+{
+    if g.snapshots as u64 <= snapshot {
+        return 11;
+    }
+    let root = qcow2_snapshots::snapshot_root(image, g, snapshot as usize);
+    qcow2_read::read_into(image, root, x, out)
+}
+
 pub fn write(image: &mut [u8], g: Geometry, x: u64, src: &[u8], allowance: usize) -> Outcome
-    requires { ⌜ Opened g (now image) ⌝ }
+    requires { ⌜ Active g (now image) ⌝ }
     ensures { λ r. ⌜ Done (writePlan (now (image .entry)) x (now (src .entry))) allowance (now (image .entry)) r (now (image .exit)) ⌝ }
 {
     let len = src.len() as u64;
@@ -32,47 +45,47 @@ pub fn write(image: &mut [u8], g: Geometry, x: u64, src: &[u8], allowance: usize
         return units::end_of(0, allowance);
     }
     let guest = power::quotient(x, g.bits);
-    let way = qcow2_guest::way_to(image, g, guest);
-    qcow2_store::writing::write_way(image, g, way, guest, src, o as usize, allowance)
+    let way = qcow2_own::own_way(image, g, guest);
+    qcow2_write::write_way(image, g, way, guest, src, o as usize, allowance)
 }
 
 // The guest clusters of a disk of size bytes, rounded up.
 fn disk_clusters(size: u64, bits: u32) -> u64
-    requires { ⌜ (bits ≤ mostBits) × (size ≤ mostSize) ⌝ }
+    requires { ⌜ (bits ≤ mostBits) × (size ≤ mostReach) ⌝ }
     ensures { λ r. ⌜ r ≡ ceilDiv size (2 ^ bits) ⌝ }
 {
     power::quotient(size + (power::power(bits) - 1), bits)
 }
 
 pub fn discard(image: &mut [u8], g: Geometry, guest: u64, allowance: usize) -> Outcome
-    requires { ⌜ Opened g (now image) ⌝ }
+    requires { ⌜ Active g (now image) ⌝ }
     ensures { λ r. ⌜ Done (discardPlan (now (image .entry)) guest) allowance (now (image .entry)) r (now (image .exit)) ⌝ }
 {
     // the product of guest and the cluster size is not formed, since it could wrap
     if disk_clusters(g.size, g.bits) <= guest {
         return Outcome::Refused(11);
     }
-    let way = qcow2_guest::way_to(image, g, guest);
-    qcow2_store::discarding::discard_way(image, g, way, guest, allowance)
+    let way = qcow2_own::own_way(image, g, guest);
+    qcow2_discard::discard_way(image, g, way, guest, allowance)
 }
 
 pub fn check(image: &[u8], scratch: &mut [u8], g: Geometry) -> Verdict
-    requires { ⌜ Opened g (now image) ⌝ }
+    requires { ⌜ Active g (now image) ⌝ }
     ensures { λ r. ⌜ (r ≡ checked (now (image .entry)) (length (now (scratch .entry)))) × (now (scratch .exit) ≡ scratchLeft (now (image .entry)) (now (scratch .entry))) ⌝ }
 {
-    if g.clusters > scratch.len() {
+    if scratch.len() / 2 < g.clusters {
         return Verdict::Refused(15);
     }
     qcow2_check::check(image, scratch, g)
 }
 
 pub fn repair(image: &mut [u8], scratch: &mut [u8], g: Geometry, allowance: usize) -> Outcome
-    requires { ⌜ Opened g (now image) ⌝ }
+    requires { ⌜ Active g (now image) ⌝ }
     ensures { λ r. ⌜ Done (repairPlan (now (image .entry)) (length (now (scratch .entry)))) allowance (now (image .entry)) r (now (image .exit)) × (now (scratch .exit) ≡ scratchLeft (now (image .entry)) (now (scratch .entry))) ⌝ }
 {
-    if scratch.len() < g.clusters {
+    if g.clusters > scratch.len() / 2 {
         return Outcome::Refused(15);
     }
     let v = qcow2_check::check(image, scratch, g);
-    qcow2_repair::repairing::verdict_repair(image, g, v, scratch, allowance)
+    qcow2_repair::verdict_repair(image, g, v, scratch, allowance)
 }

@@ -1,4 +1,2 @@
-pub mod Compares
-pub mod Steps
 pub mod Verdicts
-pub mod Naming
+pub mod Figures

@@ -1,66 +1,98 @@
--- Laws of the verdict: by the counts where all entries are good, else by the first bad entry.
+-- Laws of the verdict: a bad entry first, then what the counts show.
 -- Assumes nothing.
-use Prim.Native.Nat.{ℕ, suc}
-use mathlib.Core.Path.{_≡_, refl}
+use Prim.Native.Nat.{ℕ, suc, _*_}
+use mathlib.Core.Path.{_≡_, refl, sym, ap, _∙_}
 use mathlib.Core.Bool.{Bool, true, false, not, _&&_, _||_, true≢false}
 use mathlib.Core.List.{List, [], _∷_}
-use lib.Dec.{eqb, ltb}
-use lib.ListN.{length}
+use lib.Dec.{ltb, eqb}
+use lib.ListN.{length, drop}
 use Rattle.choice.specs.Pick.{if_then_else_, all, first, count}
-use Rattle.choice.proofs.Tests.{and-true}
-use Rattle.tally.specs.Tally.{twice}
-use Rattle.qcow2_spec.specs.Header.{version, clusterSize, clusters}
+use Rattle.endian.specs.Big.{entries}
+use Rattle.endian.proofs.Entries.{be64-drop}
+use Rattle.qcow2_spec.specs.Header.{version, clusterSize, clusters, snapshots, roots, rootSize, rootAt}
 use Rattle.qcow2_spec.specs.Entries.{place, goodL1, goodL2}
-use Rattle.qcow2_spec.specs.References.{l2Entries}
-use Rattle.qcow2_spec.specs.Check.{l2Verdict, entryVerdict, tableGood, entryGood, short, over, countsVerdict}
+use Rattle.qcow2_spec.specs.References.{l1Entries, l2Entries, figuresOf}
+use Rattle.qcow2_spec.specs.Check.{tableGood, entryGood, l2Verdict, entryVerdict, l1Verdict, badIn, rootsVerdict, wrongMarks, sharedAt, short, over, countsVerdict, verdict}
 use Rattle.qcow2_spec.specs.declared.Verdict.{Verdict}
 use Rattle.qcow2_spec.specs.declared.Verdict.the-variants.{Sound, Leaks, BadL1, BadL2, Shared, Short}
+use Rattle.qcow2_spec.proofs.Else.{orElse, mark-damage, l1-else, roots-else}
+use Rattle.qcow2_spec.proofs.Facts.{all-entries}
+use Rattle.qcow2_refs.specs.Walks.{rowAt}
+use Rattle.qcow2_bad.specs.Known.{sound}
+use Rattle.qcow2_bad.proofs.Tables.{sound-is, sound-else}
+use Rattle.qcow2_check.specs.Marks.{AllGood}
 
 -- the verdict on the counts, by what the code has found
-pub counts-tell : (s fs : List ℕ) (N a low leaks : ℕ) → N ≡ clusters s → a ≡ first (twice fs) 0 N → low ≡ first (short s fs) 0 N → leaks ≡ count (over s fs) 0 N
-    → (if ltb a N then Shared a else if ltb low N then Short low else if ltb 0 leaks then Leaks leaks else Sound) ≡ countsVerdict s fs
+pub counts-tell : (s fs : List ℕ) (N a low leaks : ℕ) → length fs ≡ N → N ≡ clusters s → a ≡ first (sharedAt s) 0 (clusters s) → low ≡ first (short s fs) 0 (length fs) → leaks ≡ count (over s fs) 0 (length fs)
+    → (if ltb a N then Shared a else if ltb low N then Short low else l1Verdict s (wrongMarks s fs) 0 (l1Entries s 0) (if ltb 0 leaks then Leaks leaks else Sound)) ≡ countsVerdict s fs
 unfolding countsVerdict
-counts-tell s fs N a low leaks hN ha hl hk = rw (← hN, ← ha, ← hl, ← hk)
+counts-tell s fs N a low leaks hL hN ha hl hk = let e = hL ∙ hN in rw (hN, ha, hl, hk, e)
 
--- where all entries are good nothing is found, and else it does not matter what comes after
-l2-all : (good : ℕ → Bool) (i j : ℕ) (es : List ℕ) (next : Verdict) → all good es ≡ true → l2Verdict good i j es next ≡ next
-unfolding l2Verdict
-l2-all good i j [] next h = refl
-l2-all good i j (e ∷ es) next h =
-    let k = and-true (good e) (all good es) h in
-    rw (k .0) (l2-all good i (suc j) es next (k .1))
+-- ---- a search is made with `Sound` first
+module _ (s fs : List ℕ) (v next : Verdict) (e : v ≡ l1Verdict s (wrongMarks s fs) 0 (l1Entries s 0) Sound) where
+  marks-else : l1Verdict s (wrongMarks s fs) 0 (l1Entries s 0) next ≡ orElse v next
+  marks-else = l1-else s (wrongMarks s fs) (mark-damage s fs) 0 (l1Entries s 0) next ∙ ap (λ (u : Verdict). orElse u next) (sym e)
 
-l2-some : (good : ℕ → Bool) (i j : ℕ) (es : List ℕ) (next next′ : Verdict) → all good es ≡ false → l2Verdict good i j es next ≡ l2Verdict good i j es next′
-unfolding l2Verdict
-l2-some good i j [] next next′ h = absurd (true≢false h)
-l2-some good i j (e ∷ es) next next′ h = go (good e) h (l2-some good i (suc j) es next next′)
-  where
-    go : (t : Bool) → (t && all good es) ≡ false → (all good es ≡ false → l2Verdict good i (suc j) es next ≡ l2Verdict good i (suc j) es next′)
-        → (if t then l2Verdict good i (suc j) es next else BadL2 i j) ≡ (if t then l2Verdict good i (suc j) es next′ else BadL2 i j)
-    go true g r = r g
-    go false g r = refl
+  -- a wrong mark is found
+  pub marks-wrong : sound v ≡ false → v ≡ l1Verdict s (wrongMarks s fs) 0 (l1Entries s 0) next
+  marks-wrong h = sym (marks-else ∙ sound-else v next h)
 
-pub entry-all : (s : List ℕ) (i e : ℕ) (next : Verdict) → entryGood s e ≡ true → entryVerdict s i e next ≡ next
-unfolding entryGood entryVerdict tableGood
-entry-all s i e next h =
-    let k = and-true (goodL1 (clusterSize s) (length s) e) (eqb (place e) 0 || all (goodL2 (version s) (clusterSize s) (length s)) (l2Entries s (place e))) h in
-    rw (k .0) (go (eqb (place e) 0) (k .1))
-  where
-    go : (t : Bool) → (t || all (goodL2 (version s) (clusterSize s) (length s)) (l2Entries s (place e))) ≡ true
-        → (if t then next else l2Verdict (goodL2 (version s) (clusterSize s) (length s)) i 0 (l2Entries s (place e)) next) ≡ next
-    go true g = refl
-    go false g = l2-all (goodL2 (version s) (clusterSize s) (length s)) i 0 (l2Entries s (place e)) next g
+  -- none is
+  pub marks-right : sound v ≡ true → next ≡ l1Verdict s (wrongMarks s fs) 0 (l1Entries s 0) next
+  marks-right h = sym (marks-else ∙ ap (λ (u : Verdict). orElse u next) (sound-is v h))
 
-pub entry-some : (s : List ℕ) (i e : ℕ) (next next′ : Verdict) → entryGood s e ≡ false → entryVerdict s i e next ≡ entryVerdict s i e next′
-unfolding entryGood entryVerdict tableGood
-entry-some s i e next next′ h = go (goodL1 (clusterSize s) (length s) e) (eqb (place e) 0) h
-  where
-    L : ℕ → Bool
-    L = goodL2 (version s) (clusterSize s) (length s)
+module _ (s : List ℕ) (v : Verdict) (e : v ≡ rootsVerdict s 0 (roots s) Sound) where
+  verdict-else : verdict s ≡ orElse v (countsVerdict s (figuresOf s))
+  unfolding verdict
+  verdict-else =
+      let next : Verdict = countsVerdict s (figuresOf s) in
+      roots-else s 0 (roots s) next ∙ ap (λ (u : Verdict). orElse u next) (sym e)
 
-    go : (g t : Bool) → (g && (t || all L (l2Entries s (place e)))) ≡ false
-        → (if not g then BadL1 i else if t then next else l2Verdict L i 0 (l2Entries s (place e)) next)
-        ≡ (if not g then BadL1 i else if t then next′ else l2Verdict L i 0 (l2Entries s (place e)) next′)
-    go false t k = refl
-    go true true k = absurd (true≢false k)
-    go true false k = l2-some L i 0 (l2Entries s (place e)) next next′ k
+  -- a bad entry is found
+  pub verdict-bad : sound v ≡ false → v ≡ verdict s
+  verdict-bad h = sym (verdict-else ∙ sound-else v (countsVerdict s (figuresOf s)) h)
+
+  -- none is
+  pub verdict-good : sound v ≡ true → countsVerdict s (figuresOf s) ≡ verdict s
+  verdict-good h = sym (verdict-else ∙ ap (λ (u : Verdict). orElse u (countsVerdict s (figuresOf s))) (sound-is v h))
+
+-- ---- where no bad entry is found, all are good
+module _ (s : List ℕ) where
+  abbrev good2 : ℕ → Bool
+  good2 = goodL2 (version s) (clusterSize s) (length s)
+
+  below-sound : (i j : ℕ) (es : List ℕ) (next : Verdict) → l2Verdict (badIn s 0) i j es next ≡ Sound → (all good2 es ≡ true) × (next ≡ Sound)
+  unfolding l2Verdict badIn
+  below-sound i j [] next h = (refl, h)
+  below-sound i j (e ∷ es) next h = go (good2 e) h (below-sound i (suc j) es next)
+    where
+      go : (b : Bool) → (if b then l2Verdict (badIn s 0) i (suc j) es next else BadL2 0 i j) ≡ Sound
+          → (l2Verdict (badIn s 0) i (suc j) es next ≡ Sound → (all good2 es ≡ true) × (next ≡ Sound)) → ((b && all good2 es) ≡ true) × (next ≡ Sound)
+      go true g k = k g
+      go false g k = absurd (true≢false (sym (ap sound g)))
+
+  entry-sound : (i e : ℕ) (next : Verdict) → entryVerdict s (badIn s 0) i e next ≡ Sound → (entryGood s e ≡ true) × (next ≡ Sound)
+  unfolding entryVerdict badIn entryGood tableGood
+  entry-sound i e next h = go (goodL1 (clusterSize s) (length s) e) (eqb (place e) 0) h
+    where
+      go : (a b : Bool) → (if not a then BadL1 0 i else if b then next else l2Verdict (badIn s 0) i 0 (l2Entries s (place e)) next) ≡ Sound
+          → ((a && (b || all good2 (l2Entries s (place e)))) ≡ true) × (next ≡ Sound)
+      go false b g = absurd (true≢false (sym (ap sound g)))
+      go true true g = (refl, g)
+      go true false g = below-sound i 0 (l2Entries s (place e)) next g
+
+  rows-sound : (i : ℕ) (es : List ℕ) (next : Verdict) → l1Verdict s (badIn s 0) i es next ≡ Sound → all (entryGood s) es ≡ true
+  unfolding l1Verdict
+  rows-sound i [] next h = refl
+  rows-sound i (e ∷ es) next h =
+      let k = entry-sound i e (l1Verdict s (badIn s 0) (suc i) es next) h in
+      rw (k .0) (rows-sound (suc i) es next (k .1))
+
+  sound-good : rootsVerdict s 0 (roots s) Sound ≡ Sound → AllGood s
+  unfolding rootsVerdict roots l1Entries rowAt
+  sound-good h i l =
+      rw (be64-drop s (rootAt s 0) (8 * i)) at
+      (all-entries (entryGood s) (rootSize s 0) (drop (rootAt s 0) s) (rows-sound 0 (entries (rootSize s 0) (drop (rootAt s 0) s)) (rootsVerdict s 1 (snapshots s) Sound) h) i l)
+
+pub all-good : (s : List ℕ) (v : Verdict) → v ≡ rootsVerdict s 0 (roots s) Sound → sound v ≡ true → AllGood s
+all-good s v e h = sound-good s (sym e ∙ sound-is v h)

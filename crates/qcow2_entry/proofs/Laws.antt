@@ -23,6 +23,6 @@ pub place-past : (C n e : ℕ) → (place e ≡ 0 → ⊥) → place e % C ≡ 0
 unfolding goodPlace
 place-past C n e h g l = rw (ne-eqb (place e) 0 h, eq-eqb (place e % C) 0 g, lt-leb (place e + C) n l)
 
-pub place-in : (C n e : ℕ) → (place e ≡ 0 → ⊥) → place e % C ≡ 0 → place e + C ≤ n → goodPlace C n e ≡ eqb (e / 2 ^ 63) 1
+pub place-in : (C n e : ℕ) → (place e ≡ 0 → ⊥) → place e % C ≡ 0 → place e + C ≤ n → goodPlace C n e ≡ true
 unfolding goodPlace
 place-in C n e h g l = rw (ne-eqb (place e) 0 h, eq-eqb (place e % C) 0 g, le-leb (place e + C) n l)

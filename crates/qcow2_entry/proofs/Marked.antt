@@ -1,6 +1,6 @@
 -- What every L2 entry gives: plain, empty and marked ones, and those that are refused.
 -- Assumes nothing.
-use Prim.Native.Nat.{ℕ, _+_, _-_, _/_, _%_, _^_, _≤_}
+use Prim.Native.Nat.{ℕ, _+_, _-_, _/_, _%_, _^_, _≤_, _<_}
 use native.Mathlib.Omega.{arith}
 use mathlib.Core.Path.{_≡_, refl, sym, ap, _∙_}
 use mathlib.Core.Logic.{_⊎_, inl, inr}
@@ -16,7 +16,7 @@ use Rattle.qcow2_spec.specs.declared.Found.{Found}
 use Rattle.qcow2_spec.specs.declared.Found.the-variants.{Host, Zeros, Absent, Refused}
 use Rattle.qcow2_spec.specs.declared.Way.{Way}
 use Rattle.qcow2_spec.specs.declared.Way.the-variants.{Bad, Slot}
-use Rattle.qcow2_entry.specs.Plain.{plain, marked, entryFound}
+use Rattle.qcow2_entry.specs.Plain.{bare, plain, marked, entryFound}
 use Rattle.qcow2_entry.proofs.Plain.{low-bits, plain-parts, plain-good, plain-way, plain-gives, other-gives, empty-only, good-plain}
 
 pub entry-way : (v C n at e o : ℕ) → wayGives (entryWay v C n at e) o ≡ entryFound v C n e o
@@ -30,7 +30,7 @@ entry-way v C n at e o = go (compressed e) (goodL2 v C n e)
 
 -- ---- plain entries
 module _ (v b n e o : ℕ) where
-  pub found-plain : 9 ≤ b → n ≤ mostLength → plain (2 ^ b) n e ≡ true → entryFound v (2 ^ b) n e o ≡ Host (e - 2 ^ 63 + o)
+  pub found-plain : 9 ≤ b → n ≤ mostLength → plain (2 ^ b) n e ≡ true → entryFound v (2 ^ b) n e o ≡ Host (bare e + o)
   unfolding wayGives
   found-plain l h p = sym (entry-way v (2 ^ b) n 0 e o) ∙ ap (λ (w : Way). wayGives w o) (plain-way b n e l h p v 0) ∙ plain-gives b n e l h p o
 
@@ -90,6 +90,10 @@ module _ (C n e o : ℕ) where
   unfolding entryFound goodL2 goodPlace place compressed zeroMark entryGives
   one-zeros z = rw z
 
+one-low : (e : ℕ) → 0 < bare (e - 1) → bare (e - 1) % 512 ≡ 0 → e % 512 ≡ 1
+unfolding bare
+one-low e p q = omega arith
+
 module _ (v b n e o : ℕ) (l : 9 ≤ b) (s : n ≤ mostLength) where
   pub found-marked : marked v (2 ^ b) n e ≡ true → entryFound v (2 ^ b) n e o ≡ Zeros
   unfolding marked
@@ -102,8 +106,8 @@ module _ (v b n e o : ℕ) (l : 9 ≤ b) (s : n ≤ mostLength) where
       go (inl a) = one-zeros (2 ^ b) n e o (eqb-true _ _ a)
       go (inr a) =
           let p = plain-parts b n (e - 1) a in
-          let q : (e - 1 - 2 ^ 63) % 512 ≡ 0 = low-bits (e - 1 - 2 ^ 63) b l (p .whole) in
-          let m : e % 512 ≡ 1 = omega (arith, p .high, q) in
+          let q : bare (e - 1) % 512 ≡ 0 = low-bits (bare (e - 1)) b l (p .whole) in
+          let m : e % 512 ≡ 1 = one-low e (p .some) q in
           good-zeros (2 ^ b) n e o (good-same (2 ^ b) n e m ∙ plain-good b n (e - 1) l s a 3) (omega arith)
 
 module _ (v C n e : ℕ) where

@@ -1,14 +1,14 @@
 -- Laws of plain entries.
 -- Assumes nothing.
 use Prim.Native.Nat.{ℕ, _+_, _-_, _*_, _/_, _%_, _^_, _≤_, _<_}
-use mathlib.Core.Path.{_≡_, refl, sym, ap, subst, _∙_}
+use mathlib.Core.Path.{_≡_, refl, sym, ap, _∙_}
 use mathlib.Core.Logic.{_⊎_, inl, inr}
 use mathlib.Core.Bool.{Bool, true, false, not, _&&_, _||_}
-use native.Mathlib.Nat.{mod-eq-of-lt}
+use native.Mathlib.Nat.{mod-eq-of-lt, div-div-eq-div-mul, div-add-mod'}
 use native.Mathlib.Omega.{arith}
 use borrow.Author.Tests.{eq-eqb, ne-eqb, eqb-true, eqb-false, leb-true, ltb-true, lt-ltb, le-leb, not-false}
 use lib.Dec.{leb, ltb, eqb}
-use lib.Pow.{mod-mod-pow}
+use lib.Pow.{mod-mod-pow, pow-pos}
 use Rattle.choice.proofs.Tests.{true-not-false, if-elim, and-true, or-true}
 use Rattle.qcow2_spec.specs.Entries.{place, goodPlace, goodL1, goodL2, compressed, zeroMark}
 use Rattle.qcow2_spec.specs.Guest.{entryWay, entryGives, wayGives}
@@ -17,7 +17,7 @@ use Rattle.qcow2_spec.specs.declared.Found.the-variants.{Host, Zeros, Absent, R
 use Rattle.qcow2_spec.specs.declared.Way.{Way}
 use Rattle.qcow2_spec.specs.declared.Way.the-variants.{Slot}
 use Rattle.qcow2_spec.proofs.Facts.{good-place2}
-use Rattle.qcow2_entry.specs.Plain.{plain}
+use Rattle.qcow2_entry.specs.Plain.{bare, plain}
 use Rattle.qcow2_entry.proofs.Laws.{place-in, place-none}
 use Rattle.qcow2_spec.specs.Header.{mostLength}
 
@@ -27,107 +27,89 @@ low-bits x b h e =
     let d : b - 9 + 9 ≡ b = omega arith in
     sym (mod-mod-pow x (b - 9) 9) ∙ rw (d, e)
 
--- ---- the place x with bit 63
-module _ (x b n : ℕ) (least : 9 ≤ b) (small : n ≤ mostLength) (some : 0 < x) (inside : x + 2 ^ b ≤ n) (whole : x % 2 ^ b ≡ 0) where
-  place-is : place (9223372036854775808 + x) ≡ x
-  unfolding place
-  place-is =
-      let l : x % 512 ≡ 0 = low-bits x b least whole in
-      let a : (9223372036854775808 + x) / 512 ≡ 18014398509481984 + x / 512 = omega arith in
-      let m : (18014398509481984 + x / 512) % 140737488355328 ≡ x / 512 = omega arith in
-      rw (a, m) (omega arith)
-
-  place-good : goodPlace (2 ^ b) n (9223372036854775808 + x) ≡ true
-  place-good =
-      let e : ℕ = 9223372036854775808 + x in
-      let p : place e ≡ x = place-is in
-      let d : e / 2 ^ 63 ≡ 1 = omega arith in
-      place-in (2 ^ b) n e (λ z. omega (arith, p, z)) (rw p whole) (omega (arith, p)) ∙ eq-eqb (e / 2 ^ 63) 1 d
-
-  unmarked : zeroMark (9223372036854775808 + x) ≡ false
-  unfolding zeroMark
-  unmarked =
-      let e : ℕ = 9223372036854775808 + x in
-      let l : x % 512 ≡ 0 = low-bits x b least whole in
-      let z : e % 2 ≡ 0 = omega arith in
-      ne-eqb (e % 2) 1 (λ y. omega (arith, z, y))
-
-  flat : compressed (9223372036854775808 + x) ≡ false
-  unfolding compressed
-  flat =
-      let e : ℕ = 9223372036854775808 + x in
-      let k : e / 2 ^ 62 ≡ 2 = omega arith in
-      let c : e / 2 ^ 62 % 2 ≡ 0 = ap (λ (y : ℕ). y % 2) k in
-      ne-eqb (e / 2 ^ 62 % 2) 1 (λ y. omega (arith, c, y))
-
-  good : (v : ℕ) → goodL2 v (2 ^ b) n (9223372036854775808 + x) ≡ true
-  unfolding goodL2
-  good v =
-      let e : ℕ = 9223372036854775808 + x in
-      let l : x % 512 ≡ 0 = low-bits x b least whole in
-      let m : e % 512 / 2 ≡ 0 = omega arith in
-      let h : e / 2 ^ 56 ≡ 128 = omega arith in
-      let t : e / 2 ^ 56 % 64 ≡ 0 = ap (λ (y : ℕ). y % 64) h in
-      rw (flat, eq-eqb (e % 512 / 2) 0 m, eq-eqb (e / 2 ^ 56 % 64) 0 t, unmarked) place-good
-
-  good-row : goodL1 (2 ^ b) n (9223372036854775808 + x) ≡ true
-  unfolding goodL1
-  good-row =
-      let e : ℕ = 9223372036854775808 + x in
-      let l : x % 512 ≡ 0 = low-bits x b least whole in
-      let m : e % 512 ≡ 0 = omega arith in
-      let h : e / 2 ^ 56 ≡ 128 = omega arith in
-      let t : e / 2 ^ 56 % 128 ≡ 0 = ap (λ (y : ℕ). y % 128) h in
-      rw (eq-eqb (e % 512) 0 m, eq-eqb (e / 2 ^ 56 % 128) 0 t) place-good
-
-  way-is : (v at : ℕ) → entryWay v (2 ^ b) n at (9223372036854775808 + x) ≡ Slot at (9223372036854775808 + x)
-  unfolding entryWay
-  way-is v at = rw (flat, good v)
-
-  gives-host : (o : ℕ) → entryGives (9223372036854775808 + x) o ≡ Host (x + o)
-  unfolding entryGives
-  gives-host o = rw (unmarked, place-is, ne-eqb x 0 (λ z. omega arith))
-
 -- ---- a plain entry
 pub record Parts (b n e : ℕ) : Type 0 where
-  pub high : 2 ^ 63 < e
-  pub inside : e - 2 ^ 63 + 2 ^ b ≤ n
-  pub whole : (e - 2 ^ 63) % 2 ^ b ≡ 0
+  pub some : 0 < bare e
+  pub inside : bare e + 2 ^ b ≤ n
+  pub whole : bare e % 2 ^ b ≡ 0
 
 pub plain-parts : (b n e : ℕ) → plain (2 ^ b) n e ≡ true → Parts b n e
 unfolding plain
 plain-parts b n e h =
-    let t = ltb (2 ^ 63) e in
-    let u = leb (e - 2 ^ 63 + 2 ^ b) n in
+    let t = ltb 0 (bare e) in
+    let u = leb (bare e + 2 ^ b) n in
     let p = and-true (t && u) _ h in
     let q = and-true t u (p .0) in
-    record { high = ltb-true _ _ (q .0); inside = leb-true _ _ (q .1); whole = eqb-true _ _ (p .1) }
+    record { some = ltb-true _ _ (q .0); inside = leb-true _ _ (q .1); whole = eqb-true _ _ (p .1) }
+
+-- its bits
+module _ (e : ℕ) (small : e % 2 ^ 63 < mostLength) (whole : e % 2 ^ 63 % 512 ≡ 0) where
+  bits-low : e % 512 ≡ 0
+  bits-low = omega arith
+
+  bits-place : e / 512 % 2 ^ 47 * 512 ≡ e % 2 ^ 63
+  bits-place = omega arith
+
+  bits-flat : e / 2 ^ 62 % 2 ≡ 0
+  bits-flat = omega arith
+
+  bits-high : e / 2 ^ 56 % 128 ≡ 0
+  bits-high = omega arith
 
 module _ (b n e : ℕ) (least : 9 ≤ b) (small : n ≤ mostLength) (h : plain (2 ^ b) n e ≡ true) where
-  joined : 9223372036854775808 + (e - 2 ^ 63) ≡ e
-  joined = let p = plain-parts b n e h in omega arith
+  few : e % 2 ^ 63 < mostLength
+  unfolding bare
+  few = let p = plain-parts b n e h in omega (arith, p .inside, pow-pos b)
+
+  nine : e % 2 ^ 63 % 512 ≡ 0
+  unfolding bare
+  nine = low-bits (e % 2 ^ 63) b least (plain-parts b n e h .whole)
+
+  place-is : place e ≡ bare e
+  unfolding place bare
+  place-is = bits-place e few nine
+
+  place-good : goodPlace (2 ^ b) n e ≡ true
+  place-good =
+      let p = plain-parts b n e h in
+      let q = place-is in
+      place-in (2 ^ b) n e (λ z. omega (arith, p .some, q, z)) (rw q (p .whole)) (omega (arith, p .inside, q))
+
+  unmarked : zeroMark e ≡ false
+  unfolding zeroMark
+  unmarked =
+      let l = bits-low e few nine in
+      ne-eqb (e % 2) 1 (λ y. omega (arith, l, y))
+
+  flat : compressed e ≡ false
+  unfolding compressed
+  flat = let c = bits-flat e few nine in ne-eqb (e / 2 ^ 62 % 2) 1 (λ y. omega (arith, c, y))
 
   pub plain-good : (v : ℕ) → goodL2 v (2 ^ b) n e ≡ true
+  unfolding goodL2
   plain-good v =
-      let p = plain-parts b n e h in
-      subst (λ (y : ℕ). goodL2 v (2 ^ b) n y ≡ true) joined (good (e - 2 ^ 63) b n least small (omega arith) (p .inside) (p .whole) v)
+      let l = bits-low e few nine in
+      let m : e % 512 / 2 ≡ 0 = ap (λ (y : ℕ). y / 2) l in
+      let t : e / 2 ^ 56 % 64 ≡ 0 = six (e / 2 ^ 56) (bits-high e few nine) in
+      rw (flat, eq-eqb (e % 512 / 2) 0 m, eq-eqb (e / 2 ^ 56 % 64) 0 t, unmarked) place-good
+    where
+      six : (k : ℕ) → k % 128 ≡ 0 → k % 64 ≡ 0
+      six k f = omega arith
 
   -- an L1 entry too
-  pub plain-row : (goodL1 (2 ^ b) n e ≡ true) × (place e ≡ e - 2 ^ 63)
-  plain-row =
-      let p = plain-parts b n e h in
-      subst (λ (y : ℕ). (goodL1 (2 ^ b) n y ≡ true) × (place y ≡ e - 2 ^ 63)) joined
-      (good-row (e - 2 ^ 63) b n least small (omega arith) (p .inside) (p .whole), place-is (e - 2 ^ 63) b n least small (omega arith) (p .inside) (p .whole))
+  pub plain-row : (goodL1 (2 ^ b) n e ≡ true) × (place e ≡ bare e)
+  unfolding goodL1
+  plain-row = (rw (eq-eqb (e % 512) 0 (bits-low e few nine), eq-eqb (e / 2 ^ 56 % 128) 0 (bits-high e few nine)) place-good, place-is)
 
   pub plain-way : (v at : ℕ) → entryWay v (2 ^ b) n at e ≡ Slot at e
-  plain-way v at =
-      let p = plain-parts b n e h in
-      subst (λ (y : ℕ). entryWay v (2 ^ b) n at y ≡ Slot at y) joined (way-is (e - 2 ^ 63) b n least small (omega arith) (p .inside) (p .whole) v at)
+  unfolding entryWay
+  plain-way v at = rw (flat, plain-good v)
 
-  pub plain-gives : (o : ℕ) → entryGives e o ≡ Host (e - 2 ^ 63 + o)
+  pub plain-gives : (o : ℕ) → entryGives e o ≡ Host (bare e + o)
+  unfolding entryGives
   plain-gives o =
       let p = plain-parts b n e h in
-      subst (λ (y : ℕ). entryGives y o ≡ Host (e - 2 ^ 63 + o)) joined (gives-host (e - 2 ^ 63) b n least small (omega arith) (p .inside) (p .whole) o)
+      rw (unmarked, place-is, ne-eqb (bare e) 0 (λ z. omega (arith, p .some, z)))
 
 -- ---- no other good entry gives a host offset
 flip : (b : Bool) → not b ≡ true → b ≡ false
@@ -181,46 +163,42 @@ module _ (v C n e : ℕ) (h : goodL2 v C n e ≡ true) (z : zeroMark e ≡ false
       whole k a f = let m : k % 140737488355328 ≡ k = mod-eq-of-lt a in omega arith
 
   module _ (some : place e ≡ 0 → ⊥) where
-    placed : ((place e % C ≡ 0) × (place e + C ≤ n)) × (e / 2 ^ 63 ≡ 1)
+    placed : (place e % C ≡ 0) × (place e + C ≤ n)
     unfolding goodPlace
     placed = go (or-true _ _ (good-place2 v C n e h))
       where
-        go : ((eqb (place e) 0 && eqb (e / 2 ^ 63) 0) ≡ true) ⊎ ((not (eqb (place e) 0) && eqb (place e % C) 0 && leb (place e + C) n && eqb (e / 2 ^ 63) 1) ≡ true)
-            → ((place e % C ≡ 0) × (place e + C ≤ n)) × (e / 2 ^ 63 ≡ 1)
+        go : ((eqb (place e) 0 && eqb (e / 2 ^ 63) 0) ≡ true) ⊎ ((not (eqb (place e) 0) && eqb (place e % C) 0 && leb (place e + C) n) ≡ true)
+            → (place e % C ≡ 0) × (place e + C ≤ n)
         go (inl a) = absurd (some (eqb-true _ _ (and-true (eqb (place e) 0) _ a .0)))
         go (inr a) =
             let t1 = not (eqb (place e) 0) in
             let t2 = eqb (place e % C) 0 in
-            let t3 = leb (place e + C) n in
-            let b = and-true (t1 && t2 && t3) (eqb (e / 2 ^ 63) 1) a in
-            let c = and-true (t1 && t2) t3 (b .0) in
-            ((eqb-true _ _ (and-true t1 t2 (c .0) .1), leb-true _ _ (c .1)), eqb-true _ _ (b .1))
+            let b = and-true (t1 && t2) _ a in
+            (eqb-true _ _ (and-true t1 t2 (b .0) .1), leb-true _ _ (b .1))
 
-    is-place : e - 2 ^ 63 ≡ place e
-    unfolding place
-    is-place =
-        let l = low in
-        let p = placed in
-        let q : e / 2 ^ 62 ≡ 2 = two (e / 2 ^ 62) (omega arith) (omega arith) (l .0 .0) in
-        let r : e / 2 ^ 56 ≡ 128 = half (e / 2 ^ 56) (omega arith) (omega arith) (l .1) in
-        let x : ℕ = e - 2 ^ 63 in
-        let d : e / 512 ≡ 18014398509481984 + x / 512 = omega arith in
-        let m : (18014398509481984 + x / 512) % 140737488355328 ≡ x / 512 = omega arith in
-        rw (d, m) (omega arith)
+    is-place : bare e ≡ place e
+    unfolding place bare
+    is-place = let l = low in digits e (l .0 .1) (l .1) (l .0 .0)
       where
-        two : (k : ℕ) → 2 ≤ k → k < 4 → k % 2 ≡ 0 → k ≡ 2
-        two k a c f = omega arith
-
-        half : (k : ℕ) → 128 ≤ k → k < 192 → k % 64 ≡ 0 → k ≡ 128
-        half k a c f = omega arith
+        digits : (e : ℕ) → e % 512 ≡ 0 → e / 2 ^ 56 % 64 ≡ 0 → e / 2 ^ 62 % 2 ≡ 0 → e % 2 ^ 63 ≡ e / 512 % 2 ^ 47 * 512
+        digits e a b c =
+            let q : e / 2 ^ 63 ≡ e / 2 ^ 62 / 2 = sym (div-div-eq-div-mul e (2 ^ 62) 2) in
+            let r : e / 2 ^ 62 ≡ e / 2 ^ 56 / 64 = sym (div-div-eq-div-mul e (2 ^ 56) 64) in
+            let d : e / 2 ^ 56 ≡ e / 512 / 2 ^ 47 = sym (div-div-eq-div-mul e 512 (2 ^ 47)) in
+            let f : e / 2 ^ 62 ≡ e / 2 ^ 63 * 2 = omega (arith, q, c, div-add-mod' (e / 2 ^ 62) 2) in
+            let g : e / 2 ^ 56 ≡ e / 2 ^ 62 * 64 = omega (arith, r, b, div-add-mod' (e / 2 ^ 56) 64) in
+            let h : e / 512 ≡ e / 2 ^ 56 * 2 ^ 47 + e / 512 % 2 ^ 47 = omega (arith, d, div-add-mod' (e / 512) (2 ^ 47)) in
+            omega (arith, f, g, h, a, div-add-mod' e 512, div-add-mod' e (2 ^ 63))
 
     pub good-plain : plain C n e ≡ true
     unfolding plain
     good-plain =
         let p = placed in
         let q = is-place in
-        let f : 2 ^ 63 < e = omega arith in
-        rw (lt-ltb (2 ^ 63) e f, q, le-leb (place e + C) n (p .0 .1), eq-eqb (place e % C) 0 (p .0 .0))
+        rw (q, lt-ltb 0 (place e) (some-pos (place e) some), le-leb (place e + C) n (p .1), eq-eqb (place e % C) 0 (p .0))
+      where
+        some-pos : (k : ℕ) → (k ≡ 0 → ⊥) → 0 < k
+        some-pos k f = omega arith
 
 -- no other L1 entry is good, unless it is empty
 row-good2 : (C n e : ℕ) → goodL1 C n e ≡ true → (goodL2 3 C n e ≡ true) × (zeroMark e ≡ false)

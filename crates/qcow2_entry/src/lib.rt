@@ -6,9 +6,9 @@ ghost use lib.Dec.{eqb};
 ghost use lib.ListN.{length};
 ghost use Rattle.choice.specs.Pick.{if_then_else_};
 ghost use Rattle.endian.specs.Big.{be64};
-ghost use Rattle.qcow2_spec.specs.Entries.{place, goodPlace, goodL1, goodL2, compressed, zeroMark};
+ghost use Rattle.qcow2_spec.specs.Entries.{place, goodPlace, goodL1, goodL2, compressed, zeroMark, common};
 ghost use Rattle.qcow2_spec.specs.Guest.{entryWay, entryGives};
-ghost use Rattle.qcow2_entry.specs.Plain.{plain, marked, entryFound};
+ghost use Rattle.qcow2_entry.specs.Plain.{bare, plain, marked, entryFound};
 ghost use Rattle.qcow2_spec.specs.Header.{mostBits, mostLength};
 use qcow2_spec::Found;
 use qcow2_spec::Way;
@@ -20,15 +20,14 @@ pub fn place_of(e: u64) -> u64
     e / 512 % 140737488355328 * 512
 }
 
-// Whether an entry's place and bit 63 go together.
+// Whether an entry's place is a cluster of the image, or place and bit 63 are zero.
 fn good_place(e: u64, n: u64, bits: u32) -> bool
     requires { ⌜ bits ≤ mostBits ⌝ }
     ensures { λ r. ⌜ r ≡ goodPlace (2 ^ bits) n e ⌝ }
 {
     let p = place_of(e);
-    let top = e / 9223372036854775808;
     if p == 0 {
-        return top == 0;
+        return e / 9223372036854775808 == 0;
     }
     if power::rest(p, bits) != 0 {
         return false;
@@ -36,7 +35,17 @@ fn good_place(e: u64, n: u64, bits: u32) -> bool
     if power::past(n, p, power::power(bits)) {
         return false;
     }
-    top == 1
+    true
+}
+
+// Whether an entry has a place that others may refer to too.
+pub fn is_common(e: u64) -> bool
+    ensures { λ r. ⌜ r ≡ common e ⌝ }
+{
+    if e / 9223372036854775808 == 1 {
+        return false;
+    }
+    place_of(e) != 0
 }
 
 pub fn good_l1(e: u64, n: u64, bits: u32) -> bool
@@ -93,20 +102,30 @@ pub fn good_l2(e: u64, version: u32, n: u64, bits: u32) -> bool
     false
 }
 
-// Whether an entry is a place with bit 63 alone. Written over the whole number, so that the entry is one load and the first two tests
-// become one.
+// An entry but for bit 63: the place of a plain one.
+pub fn bare_of(e: u64) -> u64
+    ensures { λ r. ⌜ (r ≡ bare e) × (r < 9223372036854775808) ⌝ }
+{
+    e % 9223372036854775808
+}
+
+// Twice that. A shift leaves the entry one load, where a mask would split it.
+pub fn twice(e: u64) -> u64
+    ensures { λ r. ⌜ r ≡ 2 * bare e ⌝ }
+{
+    e << 1
+}
+
+// Whether an entry is a place, and bit 63 or nothing. One test tells that the place is neither 0 nor past the last cluster.
 pub fn is_plain(e: u64, n: u64, bits: u32) -> bool
-    requires { ⌜ (bits ≤ mostBits) × (2 ^ bits ≤ n) ⌝ }
+    requires { ⌜ (bits ≤ mostBits) × ((2 ^ bits ≤ n) × (n ≤ mostLength)) ⌝ }
     ensures { λ r. ⌜ r ≡ plain (2 ^ bits) n e ⌝ }
 {
-    if e <= 9223372036854775808 {
+    let y = std::num::wrapping_sub_u64(twice(e), 2);
+    if 2 * (n - power::power(bits)) <= y {
         return false;
     }
-    let p = e - 9223372036854775808;
-    if p > n - power::power(bits) {
-        return false;
-    }
-    power::rest(p, bits) == 0
+    power::rest(e, bits) == 0
 }
 
 // The way that ends at entry i of an L2 table, which stands at an index of an image of n bytes.
@@ -141,7 +160,7 @@ pub fn gives(e: u64, o: u64) -> Found
 
 // Whether an entry has the zero mark by right: alone, or with a place.
 pub fn is_marked(e: u64, version: u32, n: u64, bits: u32) -> bool
-    requires { ⌜ (bits ≤ mostBits) × (2 ^ bits ≤ n) ⌝ }
+    requires { ⌜ (bits ≤ mostBits) × ((2 ^ bits ≤ n) × (n ≤ mostLength)) ⌝ }
     ensures { λ r. ⌜ r ≡ marked version (2 ^ bits) n e ⌝ }
 {
     if version != 3 {
@@ -178,7 +197,7 @@ pub fn found(e: u64, o: u64, version: u32, n: u64, bits: u32) -> Found
     ensures { λ r. ⌜ r ≡ entryFound version (2 ^ bits) n e o ⌝ }
 {
     if is_plain(e, n, bits) {
-        return Found::Host(e - 9223372036854775808 + o);
+        return Found::Host(bare_of(e) + o);
     }
     if e == 0 {
         return Found::Absent;

@@ -1,19 +1,16 @@
 -- The counts of a run of clusters in one refcount block, and searches by parts. Assumes nothing.
 use Prim.Native.Nat.{ℕ, zero, suc, _+_, _-_, _*_, _/_, _%_, _^_, _≤_, _<_}
-use native.Mathlib.Nat.{mul-le-mul-left, zero-add, mod-lt, div-add-mod'}
+use native.Mathlib.Nat.{mod-lt, div-add-mod'}
 use native.Mathlib.Omega.{arith}
 use mathlib.Core.Path.{_≡_, refl, sym, ap, _∙_}
-use mathlib.Core.Bool.{Bool, false}
-use lib.Pow.{pow-add, pow-pos}
-use lib.Dec.{ltb}
+use mathlib.Core.Bool.{Bool}
 use mathlib.Core.List.{List}
+use lib.Pow.{pow-add, pow-pos}
 use lib.ListN.{length, take, drop}
-use borrow.Author.Tests.{ltb-false}
 use Rattle.widths.specs.Width.{number}
 use Rattle.widths.proofs.Cells.{number-part, inside-first}
 use Rattle.choice.specs.Pick.{first}
 use Rattle.choice.proofs.Runs.{Agree, first-shift, first-low, first-high, first-hit, first-miss}
-use Rattle.power.proofs.Laws.{same-test}
 use Rattle.qcow2_spec.specs.Header.{width, perBlock, blockAt}
 use Rattle.qcow2_spec.specs.Counts.{freeAt}
 use Rattle.qcow2_spec.specs.Opened.{Opened}
@@ -67,50 +64,6 @@ module _ {g : Geometry} {s : List ℕ} {b at c : ℕ} (k : Looked g s b at c) wh
         rw (k .is-at, k .is-c) at e ∙ part-zero (g .order) s b (2 ^ g .bits) j (end - j) (k .accepted .narrow) (k .accepted .is-width) (rw n fits) in
         (f, (omega (arith, f, first-low (zeroIn s b) j (end - j)), omega (arith, f, n, first-high (zeroIn s b) j (end - j))))
 
--- a part of a block's counts
-pub lie-fewer : {o n m : ℕ} → Lie o n m → (j : ℕ) → j ≤ m → Lie o n j
-lie-fewer {o} {n} {m} l j h = record { few = l .few; short = l .short; fits = omega (arith, l .fits, mul-le-mul-left (2 ^ o) h) }
-
--- the counts that fill 2 ^ e bytes
-group-fill : (o e : ℕ) → o ≤ e + 3 → 2 ^ o * 2 ^ (e + 3 - o) ≡ 8 * 2 ^ e
-group-fill o e h =
-    let s : o + (e + 3 - o) ≡ 3 + e = omega arith in
-    sym (pow-add 2 o (e + 3 - o)) ∙ ap (λ (x : ℕ). 2 ^ x) s ∙ pow-add 2 3 e
-
--- those from count k on, a byte's first, and the bytes lent as a part
-module _ (o e : ℕ) (wide : o ≤ e + 3) (T : List ℕ) (k w : ℕ) (is : w ≡ 2 ^ o) (whole : 2 ^ o * k % 8 ≡ 0) (lie : Lie o (length T) (k + 2 ^ (e + 3 - o))) where
-  place : 2 ^ o * k ≡ 8 * (w * k / 8)
-  place = rw is (omega (arith, whole))
-
-  pub group-end : w * k / 8 + 2 ^ e ≤ length T
-  group-end = omega (arith, place, group-fill o e wide, lie .fits)
-
-  part : w * k / 8 + 2 ^ e - w * k / 8 ≡ 2 ^ e
-  part = omega arith
-
-  in-group : Agree (zeroAt o (take (2 ^ e) (drop (w * k / 8) T))) (zeroAt o T) 0 k (2 ^ (e + 3 - o))
-  unfolding zeroAt packed
-  in-group d l =
-      let f : 2 ^ o * (k + d) ≡ 8 * (w * k / 8) + 2 ^ o * d = omega (arith, place) in
-      let i = inside-first o (2 ^ e) (2 ^ (e + 3 - o)) d (lie .few) (omega (arith, group-fill o e wide)) l in
-      rw (zero-add, f, number-part o (2 ^ e) T (w * k / 8) (2 ^ o * d) i) refl
-
-  pub group-test : {r : Bool}
-      → r ≡ ltb (first (zeroAt o (take (w * k / 8 + 2 ^ e - w * k / 8) (drop (w * k / 8) T))) 0 (2 ^ (e + 3 - o))) (2 ^ (e + 3 - o))
-      → r ≡ ltb (first (zeroAt o T) k (2 ^ (e + 3 - o))) (k + 2 ^ (e + 3 - o))
-  group-test h =
-      let S = 2 ^ (e + 3 - o) in
-      let p = zeroAt o (take (2 ^ e) (drop (w * k / 8) T)) in
-      let q = first-shift p (zeroAt o T) 0 k S in-group in
-      rw part at h ∙ same-test (first p 0 S) S (first (zeroAt o T) k S) (k + S) (λ l. omega (arith, q)) (λ l. omega (arith, q))
-
--- a group is passed over
-pub group-next : (o e k m : ℕ) → o ≤ e + 3 → m ≡ 2 ^ (e + 3 - o) → 2 ^ o * k % 8 ≡ 0 → 2 ^ o * (k + m) % 8 ≡ 0
-group-next o e k m h is whole = rw is (omega (arith, group-fill o e h, whole))
-
-pub group-missed : (p : ℕ → Bool) (k S m end : ℕ) → m ≡ S → k + m ≤ end → ltb (first p k S) (k + S) ≡ false → first p k (end - k) ≡ first p (k + m) (end - (k + m))
-group-missed p k S m end is h e = rw is (first-miss p k S end (omega arith) (ltb-false (first p k S) (k + S) e))
-
 -- a search in two parts, the first up to a number
 module _ (p : ℕ → Bool) (j up end f : ℕ) (low : j ≤ up) (high : up ≤ end) (is : f ≡ first p j (up - j)) where
   two : j + (up - j) ≡ up
@@ -139,13 +92,6 @@ module _ (p : ℕ → Bool) (N left j end f : ℕ) (all : left ≤ N) (low : j �
   left-missed l =
       let e : first p (N - left + j) (end - j) ≡ N - left + f = omega (arith, is) in
       rw to-end at (first-miss p (N - left + j) (end - j) N among (omega (arith, e, l, low)))
-
--- a multiple of 8 is a byte's first
-pub eighth-whole : (o j : ℕ) → j % 8 ≡ 0 → 2 ^ o * j % 8 ≡ 0
-eighth-whole o j h =
-    let e : j ≡ 8 * (j / 8) = omega arith in
-    let f : 2 ^ o * (8 * (j / 8)) ≡ 8 * (2 ^ o * (j / 8)) = omega arith in
-    rw (e, f) (omega arith)
 
 -- a block's counts are a multiple of 8
 module _ (n : ℕ) (high : 3 ≤ n) (i : ℕ) where

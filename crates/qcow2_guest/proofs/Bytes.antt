@@ -21,30 +21,30 @@ use Rattle.qcow2_spec.specs.declared.Found.the-variants.{Host, Zeros, Absent, R
 use Rattle.qcow2_spec.proofs.Facts.{Facts, facts, c-pos, e-pos}
 use Rattle.qcow2_spec.proofs.Refers.{placed1}
 use Rattle.qcow2_spec.proofs.Numbers.{part8}
-use Rattle.qcow2_entry.specs.Plain.{plain, entryFound}
+use Rattle.qcow2_entry.specs.Plain.{bare, plain, entryFound}
 use Rattle.qcow2_entry.proofs.Marked.{entry-way, found-plain, found-other}
 use Rattle.qcow2_guest.specs.Rows.{Below, Lent, tableOf, rowLeft}
 use Rattle.qcow2_guest.proofs.Numbers.{div-mono}
 use Rattle.qcow2_guest.proofs.Pieces.{same-cluster, written}
 
 -- ---- a later part
-pub below-from : (s : List ℕ) (t x n a m : ℕ) → a + m ≤ n → Below s t x n → Below s t (x + a) m
-below-from s t x n a m h b = record { inside = b .inside; ways = λ i l. later i l }
+pub below-from : (s : List ℕ) (r t x n a m : ℕ) → a + m ≤ n → Below s r t x n → Below s r t (x + a) m
+below-from s r t x n a m h b = record { inside = b .inside; ways = λ i l. later i l }
   where
-    later : (i : ℕ) → i < m → way s ((x + a + i) / clusterSize s) ≡ l2Way s t ((x + a + i) / clusterSize s % perTable s)
+    later : (i : ℕ) → i < m → way s r ((x + a + i) / clusterSize s) ≡ l2Way s t ((x + a + i) / clusterSize s % perTable s)
     later i l = let e : x + a + i ≡ x + (a + i) = omega arith in rw e (b .ways (a + i) (omega arith))
 
-pub lent-from : (s l : List ℕ) (x n a m : ℕ) → a + m ≤ n → Lent s l x n → Lent s l (x + a) m
-lent-from s l x n a m h b = record { whole = b .whole; finds = λ i k. later i k }
+pub lent-from : (s : List ℕ) (r : ℕ) (l : List ℕ) (x n a m : ℕ) → a + m ≤ n → Lent s r l x n → Lent s r l (x + a) m
+lent-from s r l x n a m h b = record { whole = b .whole; finds = λ i k. later i k }
   where
     later : (i : ℕ) → i < m
-        → located s (x + a + i) ≡ entryFound (version s) (clusterSize s) (length s) (be64 l (8 * ((x + a + i) / clusterSize s % perTable s))) ((x + a + i) % clusterSize s)
+        → located s r (x + a + i) ≡ entryFound (version s) (clusterSize s) (length s) (be64 l (8 * ((x + a + i) / clusterSize s % perTable s))) ((x + a + i) % clusterSize s)
     later i k = let e : x + a + i ≡ x + (a + i) = omega arith in rw e (b .finds (a + i) (omega arith))
 
 -- ---- the table at t, lent as a part of the image
-below-lent : (s : List ℕ) (t x n C : ℕ) → C ≡ clusterSize s → Below s t x n → Lent s (part s t C) x n
+below-lent : (s : List ℕ) (r t x n C : ℕ) → C ≡ clusterSize s → Below s r t x n → Lent s r (part s t C) x n
 unfolding located l2Way
-below-lent s t x n C c b = record {
+below-lent s r t x n C c b = record {
   whole = length-take-le C (drop t s) (simp length-drop (omega (arith, c, b .inside))) ∙ c;
   finds = λ i h. rw (b .ways i h, c) (entry-way _ _ _ _ _ _);
 }
@@ -57,23 +57,23 @@ no-host s Zeros n j = refl
 no-host s Absent n j = refl
 no-host s (Refused k) n j = refl
 
-module _ (g : Geometry) (s l : List ℕ) (o : Opened g s) (x : ℕ) (b : Lent s l x 1) (i e : ℕ) (p : i ≡ x / 2 ^ g .bits % 2 ^ (g .bits - 3)) (q : e ≡ be64 l (8 * i)) where
-  entry-found : located s x ≡ entryFound (version s) (2 ^ g .bits) (length s) e (x % 2 ^ g .bits)
+module _ (g : Geometry) (s l : List ℕ) (o : Opened g s) (x : ℕ) (b : Lent s (g .root) l x 1) (i e : ℕ) (p : i ≡ x / 2 ^ g .bits % 2 ^ (g .bits - 3)) (q : e ≡ be64 l (8 * i)) where
+  entry-found : located s (g .root) x ≡ entryFound (version s) (2 ^ g .bits) (length s) e (x % 2 ^ g .bits)
   entry-found = rw (q, p, o .is-cluster, o .is-per) (rw add-zero at (b .finds 0 (omega arith)))
 
-  pub plain-found : plain (2 ^ g .bits) (length s) e ≡ true → located s x ≡ Host (e - 2 ^ 63 + x % 2 ^ g .bits)
+  pub plain-found : plain (2 ^ g .bits) (length s) e ≡ true → located s (g .root) x ≡ Host (bare e + x % 2 ^ g .bits)
   plain-found h = entry-found ∙ found-plain (version s) (g .bits) (length s) e (x % 2 ^ g .bits) (o .low) (o .short) h
 
-  pub other-found : plain (2 ^ g .bits) (length s) e ≡ false → (j : ℕ) → foundByte s (moved (located s x) j) ≡ 0
-  other-found h = no-host s (located s x) (λ k y. found-other (version s) (2 ^ g .bits) (length s) e (x % 2 ^ g .bits) k h (sym entry-found ∙ y))
+  pub other-found : plain (2 ^ g .bits) (length s) e ≡ false → (j : ℕ) → foundByte s (moved (located s (g .root) x) j) ≡ 0
+  other-found h = no-host s (located s (g .root) x) (λ k y. found-other (version s) (2 ^ g .bits) (length s) e (x % 2 ^ g .bits) k h (sym entry-found ∙ y))
 
 -- ---- the same for the table at t
-module _ (g : Geometry) (s : List ℕ) (o : Opened g s) (t x : ℕ) (b : Below s t x 1) (i e : ℕ) (p : i ≡ x / 2 ^ g .bits % 2 ^ (g .bits - 3)) (q : e ≡ be64 s (t + 8 * i)) where
-  pub found : wayGives (entryWay (g .version) (2 ^ g .bits) (length s) (t + 8 * i) e) (x % 2 ^ g .bits) ≡ located s x
+module _ (g : Geometry) (s : List ℕ) (o : Opened g s) (t x : ℕ) (b : Below s (g .root) t x 1) (i e : ℕ) (p : i ≡ x / 2 ^ g .bits % 2 ^ (g .bits - 3)) (q : e ≡ be64 s (t + 8 * i)) where
+  pub found : wayGives (entryWay (g .version) (2 ^ g .bits) (length s) (t + 8 * i) e) (x % 2 ^ g .bits) ≡ located s (g .root) x
   found =
       let h : i < perTable s = rw p (rw (o .is-per) (mod-lt _ (e-pos s (facts s (o .accepted))))) in
       let d : e ≡ be64 (part s t (2 ^ g .bits)) (8 * i) = q ∙ sym (part8 s t (2 ^ g .bits) (8 * i) (rw (o .is-cluster) (omega (arith, o .eight)))) in
-      entry-way _ _ _ _ _ _ ∙ rw (o .is-version) (sym (entry-found g s _ o x (below-lent s t x 1 (2 ^ g .bits) (o .is-cluster) b) i e p d))
+      entry-way _ _ _ _ _ _ ∙ rw (o .is-version) (sym (entry-found g s _ o x (below-lent s (g .root) t x 1 (2 ^ g .bits) (o .is-cluster) b) i e p d))
 
 -- ---- bytes with one L1 entry
 -- x has its own L1 entry
@@ -100,25 +100,25 @@ later-cluster C E x i c e h =
     rw (← k) (same-cluster E q (y - q) (omega (arith, high, r, low)))
 
 -- the way by the place of the L2 table
-module _ (s : List ℕ) (f : Facts s) (guest : ℕ) where
+module _ (s : List ℕ) (f : Facts s) (r guest : ℕ) where
   abbrev e : ℕ
-  e = l1Entry s guest
+  e = l1Entry s r guest
 
-  table-way : (tableOf s guest ≡ 0 → ⊥) → (way s guest ≡ l2Way s (tableOf s guest) (guest % perTable s)) × (tableOf s guest + clusterSize s ≤ length s)
+  table-way : (tableOf s r guest ≡ 0 → ⊥) → (way s r guest ≡ l2Way s (tableOf s r guest) (guest % perTable s)) × (tableOf s r guest + clusterSize s ≤ length s)
   unfolding tableOf way
   table-way z = go (goodL1 (clusterSize s) (length s) e) refl
     where
-      go : (b : Bool) → goodL1 (clusterSize s) (length s) e ≡ b → (way s guest ≡ l2Way s (tableOf s guest) (guest % perTable s)) × (tableOf s guest + clusterSize s ≤ length s)
+      go : (b : Bool) → goodL1 (clusterSize s) (length s) e ≡ b → (way s r guest ≡ l2Way s (tableOf s r guest) (guest % perTable s)) × (tableOf s r guest + clusterSize s ≤ length s)
       go true t =
-          let p : tableOf s guest ≡ place e = rw t in
+          let p : tableOf s r guest ≡ place e = rw t in
           (rw (t, ne-eqb (place e) 0 (λ y. z (p ∙ y))), rw t (placed1 s f e t .inside))
       go false t = absurd (z (rw t))
 
-  table-none : tableOf s guest ≡ 0 → (x k : ℕ) → wayGives (way s guest) x ≡ Host k → ⊥
+  table-none : tableOf s r guest ≡ 0 → (x k : ℕ) → wayGives (way s r guest) x ≡ Host k → ⊥
   unfolding tableOf way wayGives
   table-none z x k = go (goodL1 (clusterSize s) (length s) e) refl
     where
-      go : (b : Bool) → goodL1 (clusterSize s) (length s) e ≡ b → wayGives (way s guest) x ≡ Host k → ⊥
+      go : (b : Bool) → goodL1 (clusterSize s) (length s) e ≡ b → wayGives (way s r guest) x ≡ Host k → ⊥
       go true t y = let p : place e ≡ 0 = rw t at z in let d : Absent ≡ Host k = rw (t, eq-eqb (place e) 0 p) at y in let w : _≡_ {A = ℕ} 0 1 = cc in omega arith
       go false t y = let d : Refused 12 ≡ Host k = rw t at y in let w : _≡_ {A = ℕ} 0 1 = cc in omega arith
 
@@ -130,50 +130,50 @@ no-byte s Absent n = refl
 no-byte s (Refused k) n = refl
 
 module _ (g : Geometry) (s : List ℕ) (o : Opened g s) (x n : ℕ) (h : n ≤ rowLeft (2 ^ g .bits) (2 ^ (g .bits - 3)) x) where
-  pub same-row : (i : ℕ) → i < n → l1Entry s ((x + i) / clusterSize s) ≡ l1Entry s (x / clusterSize s)
+  pub same-row : (i : ℕ) → i < n → l1Entry s (g .root) ((x + i) / clusterSize s) ≡ l1Entry s (g .root) (x / clusterSize s)
   unfolding l1Entry l1EntryAt
   same-row i l =
       let f = facts s (o .accepted) in
       let k : n ≤ rowLeft (clusterSize s) (perTable s) x = rw (o .is-cluster, o .is-per) at h in
       rw (later-cluster (clusterSize s) (perTable s) x i (c-pos s f) (e-pos s f) (omega arith))
 
-  same-table : (i : ℕ) → i < n → tableOf s ((x + i) / clusterSize s) ≡ tableOf s (x / clusterSize s)
+  same-table : (i : ℕ) → i < n → tableOf s (g .root) ((x + i) / clusterSize s) ≡ tableOf s (g .root) (x / clusterSize s)
   unfolding tableOf
   same-table i l = rw (same-row i l)
 
   -- the L2 table at t, which is not 0
-  module _ (t : ℕ) (d : t ≡ tableOf s (x / 2 ^ g .bits)) (z : t ≡ 0 → ⊥) where
-    row-below : Below s t x n
+  module _ (t : ℕ) (d : t ≡ tableOf s (g .root) (x / 2 ^ g .bits)) (z : t ≡ 0 → ⊥) where
+    row-below : Below s (g .root) t x n
     row-below =
         let f = facts s (o .accepted) in
-        let p : t ≡ tableOf s (x / clusterSize s) = rw (← o .is-cluster) d in
-        let y : tableOf s (x / clusterSize s) ≡ 0 → ⊥ = λ u. z (p ∙ u) in
+        let p : t ≡ tableOf s (g .root) (x / clusterSize s) = rw (← o .is-cluster) d in
+        let y : tableOf s (g .root) (x / clusterSize s) ≡ 0 → ⊥ = λ u. z (p ∙ u) in
         rw p (record {
-          inside = table-way s f (x / clusterSize s) y .1;
-          ways = λ i l. rw (same-table i l) at (table-way s f ((x + i) / clusterSize s) (λ u. y (sym (same-table i l) ∙ u)) .0);
+          inside = table-way s f (g .root) (x / clusterSize s) y .1;
+          ways = λ i l. rw (same-table i l) at (table-way s f (g .root) ((x + i) / clusterSize s) (λ u. y (sym (same-table i l) ∙ u)) .0);
         })
 
     pub row-inside : t + 2 ^ g .bits ≤ length s
     row-inside = rw (o .is-cluster) (row-below .inside)
 
-    pub row-lent : (m : ℕ) → m ≡ 2 ^ g .bits → Lent s (part s t m) x n
-    row-lent m e = below-lent s t x n m (e ∙ o .is-cluster) row-below
+    pub row-lent : (m : ℕ) → m ≡ 2 ^ g .bits → Lent s (g .root) (part s t m) x n
+    row-lent m e = below-lent s (g .root) t x n m (e ∙ o .is-cluster) row-below
 
-  pub row-blank : tableOf s (x / 2 ^ g .bits) ≡ 0 → (l : List ℕ) → length l ≡ n → splice l 0 (replicate (length l) 0) ≡ guestBytes s x (length l)
+  pub row-blank : tableOf s (g .root) (x / 2 ^ g .bits) ≡ 0 → (l : List ℕ) → length l ≡ n → splice l 0 (replicate (length l) 0) ≡ guestBytes s (g .root) x (length l)
   unfolding guestByte located
   row-blank z l e =
-      let y : tableOf s (x / clusterSize s) ≡ 0 = rw (o .is-cluster) at z in
-      written s x l (replicate (length l) 0) (length-replicate (length l) 0) (λ i k. byte y i (omega arith) ∙ sym (getD-replicate (length l) i 0 0 k))
+      let y : tableOf s (g .root) (x / clusterSize s) ≡ 0 = rw (o .is-cluster) at z in
+      written s (g .root) x l (replicate (length l) 0) (length-replicate (length l) 0) (λ i k. byte y i (omega arith) ∙ sym (getD-replicate (length l) i 0 0 k))
     where
-      byte : tableOf s (x / clusterSize s) ≡ 0 → (i : ℕ) → i < n → guestByte s (x + i) ≡ 0
-      byte y i k = no-byte s (located s (x + i)) (table-none s (facts s (o .accepted)) ((x + i) / clusterSize s) (same-table i k ∙ y) ((x + i) % clusterSize s))
+      byte : tableOf s (g .root) (x / clusterSize s) ≡ 0 → (i : ℕ) → i < n → guestByte s (g .root) (x + i) ≡ 0
+      byte y i k = no-byte s (located s (g .root) (x + i)) (table-none s (facts s (o .accepted)) (g .root) ((x + i) / clusterSize s) (same-table i k ∙ y) ((x + i) % clusterSize s))
 
 -- ---- the place of the L2 table, by the test of the L1 entry e
-module _ (g : Geometry) (s : List ℕ) (o : Opened g s) (guest e : ℕ) (q : e ≡ l1Entry s guest) where
-  pub table-good : goodL1 (2 ^ g .bits) (length s) e ≡ true → place e ≡ tableOf s guest
+module _ (g : Geometry) (s : List ℕ) (o : Opened g s) (guest e : ℕ) (q : e ≡ l1Entry s (g .root) guest) where
+  pub table-good : goodL1 (2 ^ g .bits) (length s) e ≡ true → place e ≡ tableOf s (g .root) guest
   unfolding tableOf
-  table-good h = let t : goodL1 (clusterSize s) (length s) (l1Entry s guest) ≡ true = rw (← o .is-cluster, ← q) h in rw (t, q)
+  table-good h = let t : goodL1 (clusterSize s) (length s) (l1Entry s (g .root) guest) ≡ true = rw (← o .is-cluster, ← q) h in rw (t, q)
 
-  pub table-bad : goodL1 (2 ^ g .bits) (length s) e ≡ false → 0 ≡ tableOf s guest
+  pub table-bad : goodL1 (2 ^ g .bits) (length s) e ≡ false → 0 ≡ tableOf s (g .root) guest
   unfolding tableOf
-  table-bad h = let t : goodL1 (clusterSize s) (length s) (l1Entry s guest) ≡ false = rw (← o .is-cluster, ← q) h in rw t
+  table-bad h = let t : goodL1 (clusterSize s) (length s) (l1Entry s (g .root) guest) ≡ false = rw (← o .is-cluster, ← q) h in rw t

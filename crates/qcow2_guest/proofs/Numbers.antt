@@ -5,15 +5,15 @@ use native.Mathlib.Nat.{div-lt-iff-lt-mul, div-le-self, mod-lt, div-add-mod', no
 use native.Mathlib.Omega.{arith}
 use mathlib.Core.Path.{_≡_, refl}
 use mathlib.Core.List.{List}
-use borrow.Author.Tests.{eq-eqb, ne-eqb, lt-ltb, le-ltb}
+use borrow.Author.Tests.{eq-eqb, ne-eqb, lt-ltb, le-ltb, lt-leb}
 use lib.ListN.{length}
 use Rattle.choice.proofs.Tests.{if-zero}
-use Rattle.qcow2_spec.specs.Header.{clusterSize, diskSize, l1Size, perTable}
-use Rattle.qcow2_spec.specs.Guest.{waysNumber, outside, touched, guestBytes, readNumber, readInto}
+use Rattle.qcow2_spec.specs.Header.{clusterSize, perTable, roots, rootSize}
+use Rattle.qcow2_spec.specs.Guest.{reach, waysNumber, outside, touched, guestBytes, readNumber, readInto}
 use Rattle.qcow2_spec.specs.Opened.{Opened}
 use Rattle.qcow2_spec.specs.declared.Geometry.{Geometry}
 use Rattle.qcow2_spec.proofs.Facts.{facts, c-pos, e-pos}
-use Rattle.qcow2_spec.proofs.Ways.{inside}
+use Rattle.qcow2_spec.proofs.Ways.{inside, reach-in}
 
 -- ---- the guest clusters that a range touches
 pub div-mono : (C x y : ℕ) → 0 < C → x ≤ y → x / C ≤ y / C
@@ -44,39 +44,39 @@ touched-below C x (suc l) m p h =
 -- ---- a range on the disk
 module _ (g : Geometry) (s : List ℕ) (o : Opened g s) where
   -- a guest cluster that the L1 table reaches
-  pub row-of : (guest : ℕ) → guest < l1Size s * perTable s → guest / perTable s < l1Size s
+  pub row-of : (guest : ℕ) → guest < rootSize s (g .root) * perTable s → guest / perTable s < rootSize s (g .root)
   row-of guest h = div-lt-iff-lt-mul (e-pos s (facts s (o .accepted))) .1 h
 
   module _ (x len : ℕ) where
-    pub number-offset : g .size < x → readNumber s x len ≡ 11
+    pub number-offset : g .size < x → readNumber s (g .root) x len ≡ 11
     unfolding readNumber outside
-    number-offset h = rw (o .accepted, ← o .is-size, lt-ltb (g .size) x h)
+    number-offset h = rw (o .accepted, lt-leb (roots s) (g .root) (o .there), ← o .is-size, lt-ltb (g .size) x h)
 
-    pub number-range : x ≤ g .size → g .size - x < len → readNumber s x len ≡ 11
+    pub number-range : x ≤ g .size → g .size - x < len → readNumber s (g .root) x len ≡ 11
     unfolding readNumber outside
-    number-range h n = rw (o .accepted, ← o .is-size, le-ltb (g .size) x h, lt-ltb (g .size - x) len n)
+    number-range h n = rw (o .accepted, lt-leb (roots s) (g .root) (o .there), ← o .is-size, le-ltb (g .size) x h, lt-ltb (g .size - x) len n)
 
-    pub number-ways : x ≤ g .size → len ≤ g .size - x → readNumber s x len ≡ waysNumber s (x / 2 ^ g .bits) (touched (2 ^ g .bits) x len)
+    pub number-ways : x ≤ g .size → len ≤ g .size - x → readNumber s (g .root) x len ≡ waysNumber s (g .root) (x / 2 ^ g .bits) (touched (2 ^ g .bits) x len)
     unfolding readNumber outside
-    number-ways h n = rw (o .accepted, ← o .is-size, le-ltb (g .size) x h, le-ltb (g .size - x) len n, o .is-cluster)
+    number-ways h n = rw (o .accepted, lt-leb (roots s) (g .root) (o .there), ← o .is-size, le-ltb (g .size) x h, le-ltb (g .size - x) len n, o .is-cluster)
 
     -- the L1 table reaches each guest cluster that the range touches
-    pub range-in : x + len ≤ g .size → x / 2 ^ g .bits + touched (2 ^ g .bits) x len ≤ l1Size s * perTable s
+    pub range-in : x + len ≤ g .size → x / 2 ^ g .bits + touched (2 ^ g .bits) x len ≤ rootSize s (g .root) * perTable s
     range-in h =
         let f = facts s (o .accepted) in
-        rw (o .is-cluster) (touched-below (clusterSize s) x len (l1Size s * perTable s) (c-pos s f) (omega (arith, f .reach, o .is-size)))
+        rw (o .is-cluster) (touched-below (clusterSize s) x len (rootSize s (g .root) * perTable s) (c-pos s f) (omega (arith, reach-in s f (g .root), o .is-size)))
 
     -- an accepted range lies on the disk
-    pub number-fits : readNumber s x len ≡ 0 → x + len ≤ diskSize s
+    pub number-fits : readNumber s (g .root) x len ≡ 0 → x + len ≤ reach s (g .root)
     unfolding readNumber
-    number-fits e = inside s (facts s (o .accepted)) x len (if-zero (outside s x len) 10 _ (rw (o .accepted) at e) .0)
+    number-fits e = inside s (facts s (o .accepted)) (g .root) x len (if-zero (outside s (g .root) x len) 10 _ (rw (o .accepted) at e) .0) .1
 
 -- ---- what a read leaves in its output
-module _ (s : List ℕ) (x : ℕ) (out : List ℕ) where
-  pub into-refused : (readNumber s x (length out) ≡ 0 → ⊥) → readInto s x out ≡ out
+module _ (s : List ℕ) (r x : ℕ) (out : List ℕ) where
+  pub into-refused : (readNumber s r x (length out) ≡ 0 → ⊥) → readInto s r x out ≡ out
   unfolding readInto
-  into-refused h = rw (ne-eqb (readNumber s x (length out)) 0 h)
+  into-refused h = rw (ne-eqb (readNumber s r x (length out)) 0 h)
 
-  pub into-done : readNumber s x (length out) ≡ 0 → readInto s x out ≡ guestBytes s x (length out)
+  pub into-done : readNumber s r x (length out) ≡ 0 → readInto s r x out ≡ guestBytes s r x (length out)
   unfolding readInto
-  into-done h = rw (eq-eqb (readNumber s x (length out)) 0 h)
+  into-done h = rw (eq-eqb (readNumber s r x (length out)) 0 h)

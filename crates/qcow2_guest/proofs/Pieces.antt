@@ -19,7 +19,7 @@ use Rattle.endian.specs.Big.{part, splice}
 use Rattle.endian.proofs.Laws.{splice-whole}
 use Rattle.qcow2_spec.specs.Header.{clusterSize, diskSize}
 use Rattle.qcow2_spec.specs.Entries.{place, zeroMark}
-use Rattle.qcow2_spec.specs.Guest.{way, entryGives, wayGives, located, translate, foundByte, guestByte, guestBytes, foundPart, inPlace}
+use Rattle.qcow2_spec.specs.Guest.{reach, way, entryGives, wayGives, located, translate, foundByte, guestByte, guestBytes, foundPart, inPlace}
 use Rattle.qcow2_spec.specs.Runs.{moved}
 use Rattle.qcow2_spec.specs.Opened.{Opened}
 use Rattle.qcow2_spec.specs.declared.Geometry.{Geometry}
@@ -30,8 +30,7 @@ use Rattle.qcow2_spec.specs.declared.Way.the-variants.{Bad, NoTable, Slot}
 use Rattle.qcow2_spec.proofs.Found.{the-type}
 use Rattle.qcow2_spec.proofs.Facts.{facts, c-pos}
 use Rattle.qcow2_spec.proofs.Refers.{placed2}
-use Rattle.qcow2_spec.specs.Ready.{Ready}
-use Rattle.qcow2_guest.proofs.Ready.{reached, way-ready}
+use Rattle.qcow2_guest.proofs.Ready.{reached, Lies, way-lies}
 
 -- ---- i bytes on in the same cluster of C bytes
 pub same-cluster : (C x i : ℕ) → x % C + i < C → (x + i) / C ≡ x / C
@@ -54,19 +53,19 @@ way-moved (Bad k) o i = refl
 way-moved NoTable o i = refl
 way-moved (Slot a e) o i = entry-moved (zeroMark e) (eqb (place e) 0) (place e) o i
 
-pub located-moved : (s : List ℕ) (x i : ℕ) → x % clusterSize s + i < clusterSize s → located s (x + i) ≡ moved (located s x) i
+pub located-moved : (s : List ℕ) (r x i : ℕ) → x % clusterSize s + i < clusterSize s → located s r (x + i) ≡ moved (located s r x) i
 unfolding located
-located-moved s x i h =
-    rw (same-cluster (clusterSize s) x i h, same-rest (clusterSize s) x i h, way-moved (way s (x / clusterSize s)) (x % clusterSize s) i)
+located-moved s r x i h =
+    rw (same-cluster (clusterSize s) x i h, same-rest (clusterSize s) x i h, way-moved (way s r (x / clusterSize s)) (x % clusterSize s) i)
 
-byte-moved : (s : List ℕ) (x i : ℕ) → x % clusterSize s + i < clusterSize s → guestByte s (x + i) ≡ foundByte s (moved (located s x) i)
+byte-moved : (s : List ℕ) (r x i : ℕ) → x % clusterSize s + i < clusterSize s → guestByte s r (x + i) ≡ foundByte s (moved (located s r x) i)
 unfolding guestByte
-byte-moved s x i h = ap (foundByte s) (located-moved s x i h)
+byte-moved s r x i h = ap (foundByte s) (located-moved s r x i h)
 
 -- a part l of the output that gets the bytes b
-pub written : (s : List ℕ) (x : ℕ) (l b : List ℕ) → length b ≡ length l → ((i : ℕ) → i < length l → guestByte s (x + i) ≡ getD b i 0) → splice l 0 b ≡ guestBytes s x (length l)
+pub written : (s : List ℕ) (r x : ℕ) (l b : List ℕ) → length b ≡ length l → ((i : ℕ) → i < length l → guestByte s r (x + i) ≡ getD b i 0) → splice l 0 b ≡ guestBytes s r x (length l)
 unfolding guestBytes
-written s x l b n h = splice-whole l b n ∙ rw (← n) (sym (each-list (guestByte s) b x (λ i k. h i (omega arith))))
+written s r x l b n h = splice-whole l b n ∙ rw (← n) (sym (each-list (guestByte s r) b x (λ i k. h i (omega arith))))
 
 -- what the arm `_` after `Host` is told
 abbrev Other : Found → Type 0
@@ -89,11 +88,11 @@ host-is false false p o h e = cc
 
 module _ (g : Geometry) (s : List ℕ) (o : Opened g s) (x : ℕ) where
   -- a host offset lies in the image, with the rest of its cluster
-  pub host-in : (h : ℕ) → x < diskSize s → located s x ≡ Host h → h + (2 ^ g .bits - x % 2 ^ g .bits) ≤ length s
+  pub host-in : (h : ℕ) → x < reach s (g .root) → located s (g .root) x ≡ Host h → h + (2 ^ g .bits - x % 2 ^ g .bits) ≤ length s
   unfolding located wayGives entryGives
-  host-in h l e = rw (o .is-cluster) (go (way s (x / clusterSize s)) (way-ready g s o _ (reached g s o x l)) e)
+  host-in h l e = rw (o .is-cluster) (go (way s (g .root) (x / clusterSize s)) (way-lies g s o _ (reached g s o x l)) e)
     where
-      go : (w : Way) → Ready g s w (x / clusterSize s) → wayGives w (x % clusterSize s) ≡ Host h → h + (clusterSize s - x % clusterSize s) ≤ length s
+      go : (w : Way) → Lies g s w (x / clusterSize s) → wayGives w (x % clusterSize s) ≡ Host h → h + (clusterSize s - x % clusterSize s) ≤ length s
       go (Bad k) r e = absurd (let z : _≡_ {A = ℕ} 0 1 = cc in omega arith)
       go NoTable r e = absurd (let z : _≡_ {A = ℕ} 0 1 = cc in omega arith)
       go (Slot a y) r e =
@@ -101,26 +100,29 @@ module _ (g : Geometry) (s : List ℕ) (o : Opened g s) (x : ℕ) where
           omega (arith, placed2 s f y (r .good) .inside, host-is (zeroMark y) (eqb (place y) 0) (place y) (x % clusterSize s) h e, mod-lt x (c-pos s f))
 
   -- a translation that gives a host offset
-  pub host-found : (h : ℕ) → translate s x ≡ Host h → (x < g .size) × (h + (2 ^ g .bits - x % 2 ^ g .bits) ≤ length s)
-  unfolding translate
-  host-found h e = go (leb (diskSize s) x) refl (rw (o .accepted) at e)
-    where
-      go : (b : Bool) → leb (diskSize s) x ≡ b → (if b then Refused 11 else located s x) ≡ Host h → (x < g .size) × (h + (2 ^ g .bits - x % 2 ^ g .bits) ≤ length s)
-      go true t e = absurd (let z : _≡_ {A = ℕ} 0 1 = cc in omega arith)
-      go false t e = let l : x < diskSize s = leb-false _ _ t in (rw (o .is-size) l, host-in h l e)
+  module _ (z : g .root ≡ 0) where
+    pub host-found : (h : ℕ) → translate s x ≡ Host h → (x < g .size) × (h + (2 ^ g .bits - x % 2 ^ g .bits) ≤ length s)
+    unfolding translate reach
+    host-found h e = go (leb (diskSize s) x) refl (rw (o .accepted) at e)
+      where
+        go : (b : Bool) → leb (diskSize s) x ≡ b → (if b then Refused 11 else located s 0 x) ≡ Host h → (x < g .size) × (h + (2 ^ g .bits - x % 2 ^ g .bits) ≤ length s)
+        go true t e = absurd (let z : _≡_ {A = ℕ} 0 1 = cc in omega arith)
+        go false t e =
+            let l : x < reach s (g .root) = rw z (leb-false _ _ t) in
+            (rw (o .is-size) l, host-in h l (rw z e))
 
-  pub host-part : (h m : ℕ) → translate s x ≡ Host h → m ≡ min (2 ^ g .bits - x % 2 ^ g .bits) (g .size - x) → part s h m ≡ inPlace s x
-  unfolding inPlace foundPart
-  host-part h m e q = rw (e, q, o .is-cluster, o .is-size)
+    pub host-part : (h m : ℕ) → translate s x ≡ Host h → m ≡ min (2 ^ g .bits - x % 2 ^ g .bits) (g .size - x) → part s h m ≡ inPlace s x
+    unfolding inPlace foundPart reach
+    host-part h m e q = rw (e, q, o .is-cluster, o .is-size, z)
 
   -- a part l of the output that gets the bytes from x on
   module _ (l : List ℕ) (r : x % 2 ^ g .bits + length l ≤ 2 ^ g .bits) where
-    filled : (b : List ℕ) → length b ≡ length l → ((i : ℕ) → i < length l → foundByte s (moved (located s x) i) ≡ getD b i 0) → splice l 0 b ≡ guestBytes s x (length l)
+    filled : (b : List ℕ) → length b ≡ length l → ((i : ℕ) → i < length l → foundByte s (moved (located s (g .root) x) i) ≡ getD b i 0) → splice l 0 b ≡ guestBytes s (g .root) x (length l)
     filled b n h =
         let q : x % clusterSize s + length l ≤ clusterSize s = rw (o .is-cluster) at r in
-        written s x l b n (λ i k. byte-moved s x i (omega arith) ∙ h i k)
+        written s (g .root) x l b n (λ i k. byte-moved s (g .root) x i (omega arith) ∙ h i k)
 
-    pub copied : (h : ℕ) → x < diskSize s → located s x ≡ Host h → splice l 0 (take (length l) (part s h (length l))) ≡ guestBytes s x (length l)
+    pub copied : (h : ℕ) → x < reach s (g .root) → located s (g .root) x ≡ Host h → splice l 0 (take (length l) (part s h (length l))) ≡ guestBytes s (g .root) x (length l)
     unfolding foundByte
     copied h k e =
         let m : ℕ = length l in
@@ -128,6 +130,6 @@ module _ (g : Geometry) (s : List ℕ) (o : Opened g s) (x : ℕ) where
         let n : length (part s h m) ≡ m = length-take-le m (drop h s) (simp length-drop (omega arith)) in
         rw (take-all m (part s h m) (omega arith)) (filled (part s h m) n (λ i k. rw e (sym (getD-take m (drop h s) i 0 k ∙ getD-drop h s i 0))))
 
-    pub cleared : (f : Found) → located s x ≡ f → ((i : ℕ) → foundByte s (moved f i) ≡ 0) → splice l 0 (replicate (length l) 0) ≡ guestBytes s x (length l)
+    pub cleared : (f : Found) → located s (g .root) x ≡ f → ((i : ℕ) → foundByte s (moved f i) ≡ 0) → splice l 0 (replicate (length l) 0) ≡ guestBytes s (g .root) x (length l)
     cleared f e z =
         filled (replicate (length l) 0) (length-replicate (length l) 0) (λ i k. rw e (z i ∙ sym (getD-replicate (length l) i 0 0 k)))

@@ -1,4 +1,4 @@
--- Guest bytes that have one L1 entry: the L2 table through which their ways lead.
+-- Guest bytes that have one entry of L1 table r: the L2 table through which their ways lead.
 -- Assumes nothing.
 use Prim.Native.Nat.{ℕ, _+_, _-_, _*_, _/_, _%_, _≤_, _<_}
 use mathlib.Core.Path.{_≡_}
@@ -12,19 +12,19 @@ use Rattle.qcow2_spec.specs.Guest.{l1Entry, l2Way, way, located}
 use Rattle.qcow2_entry.specs.Plain.{entryFound}
 
 -- the ways to the n bytes of the disk from x on all lead through the L2 table at t
-pub record Below (s : List ℕ) (t x n : ℕ) : Type 0 where
+pub record Below (s : List ℕ) (r t x n : ℕ) : Type 0 where
   pub inside : t + clusterSize s ≤ length s
-  pub ways : (i : ℕ) → i < n → way s ((x + i) / clusterSize s) ≡ l2Way s t ((x + i) / clusterSize s % perTable s)
+  pub ways : (i : ℕ) → i < n → way s r ((x + i) / clusterSize s) ≡ l2Way s t ((x + i) / clusterSize s % perTable s)
 
 -- the n bytes of the disk from x on lie where the entries of the lent L2 table l say
-pub record Lent (s l : List ℕ) (x n : ℕ) : Type 0 where
+pub record Lent (s : List ℕ) (r : ℕ) (l : List ℕ) (x n : ℕ) : Type 0 where
   pub whole : length l ≡ clusterSize s
   pub finds : (i : ℕ) → i < n
-      → located s (x + i) ≡ entryFound (version s) (clusterSize s) (length s) (be64 l (8 * ((x + i) / clusterSize s % perTable s))) ((x + i) % clusterSize s)
+      → located s r (x + i) ≡ entryFound (version s) (clusterSize s) (length s) (be64 l (8 * ((x + i) / clusterSize s % perTable s))) ((x + i) % clusterSize s)
 
 -- the place of the L2 table of a guest cluster; 0 where it has none
-unfoldable pub tableOf : List ℕ → ℕ → ℕ
-tableOf s guest = if goodL1 (clusterSize s) (length s) (l1Entry s guest) then place (l1Entry s guest) else 0
+unfoldable pub tableOf : List ℕ → (r guest : ℕ) → ℕ
+tableOf s r guest = if goodL1 (clusterSize s) (length s) (l1Entry s r guest) then place (l1Entry s r guest) else 0
 
 -- the bytes from x on that have its L1 entry, where tables have E entries
 unfoldable pub rowLeft : (C E x : ℕ) → ℕ

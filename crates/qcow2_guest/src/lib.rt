@@ -2,9 +2,9 @@
 ghost use mathlib.Core.Path.{_≡_};
 ghost use Prim.Native.Nat.{_+_, _-_, _/_, _%_, _^_, _<_, _≤_, min};
 ghost use lib.ListN.{length};
-ghost use Rattle.qcow2_spec.specs.Header.{mostBits, clusterSize, diskSize, perTable, l1Size};
-ghost use Rattle.qcow2_spec.specs.Guest.{l1Entry, l2Way, way, located, translate};
-ghost use Rattle.qcow2_spec.specs.Opened.{Opened};
+ghost use Rattle.qcow2_spec.specs.Header.{mostBits, clusterSize, perTable, rootSize};
+ghost use Rattle.qcow2_spec.specs.Guest.{reach, l1Entry, l2Way, way, located, translate};
+ghost use Rattle.qcow2_spec.specs.Opened.{Opened, Active};
 ghost use Rattle.qcow2_guest.specs.Rows.{rowLeft};
 use qcow2_spec::Found;
 use qcow2_spec::Geometry;
@@ -31,8 +31,8 @@ pub fn row_left(x: u64, left: usize, bits: u32) -> usize
 
 // The L1 entry of a guest cluster.
 pub fn l1_entry(image: &[u8], g: Geometry, guest: u64) -> u64
-    requires { ⌜ (Opened g (now image)) × (guest / perTable (now image) < l1Size (now image)) ⌝ }
-    ensures { λ r. ⌜ r ≡ l1Entry (now (image .entry)) guest ⌝ }
+    requires { ⌜ (Opened g (now image)) × (guest / perTable (now image) < rootSize (now image) (g .root)) ⌝ }
+    ensures { λ r. ⌜ r ≡ l1Entry (now (image .entry)) (g .root) guest ⌝ }
 {
     let i = power::quotient(guest, g.bits - 3) as usize;
     endian::load64(image, g.l1at + 8 * i)
@@ -51,8 +51,8 @@ fn l2_way(image: &[u8], g: Geometry, t: usize, guest: u64) -> Way
 
 // The way to a guest cluster.
 pub fn way_to(image: &[u8], g: Geometry, guest: u64) -> Way
-    requires { ⌜ (Opened g (now image)) × (guest / perTable (now image) < l1Size (now image)) ⌝ }
-    ensures { λ r. ⌜ r ≡ way (now (image .entry)) guest ⌝ }
+    requires { ⌜ (Opened g (now image)) × (guest / perTable (now image) < rootSize (now image) (g .root)) ⌝ }
+    ensures { λ r. ⌜ r ≡ way (now (image .entry)) (g .root) guest ⌝ }
 {
     let e = l1_entry(image, g, guest);
     if qcow2_entry::good_l1(e, image.len() as u64, g.bits) {
@@ -67,8 +67,8 @@ pub fn way_to(image: &[u8], g: Geometry, guest: u64) -> Way
 
 // Where byte x of the disk lies.
 pub fn locate(image: &[u8], g: Geometry, x: u64) -> Found
-    requires { ⌜ (Opened g (now image)) × (x < diskSize (now image)) ⌝ }
-    ensures { λ r. ⌜ r ≡ located (now (image .entry)) x ⌝ }
+    requires { ⌜ (Opened g (now image)) × (x < reach (now image) (g .root)) ⌝ }
+    ensures { λ r. ⌜ r ≡ located (now (image .entry)) (g .root) x ⌝ }
 {
     let o = power::rest(x, g.bits);
     let w = way_to(image, g, power::quotient(x, g.bits));
@@ -81,7 +81,7 @@ pub fn locate(image: &[u8], g: Geometry, x: u64) -> Found
 
 // The translation of guest offset x.
 pub fn translated(image: &[u8], g: Geometry, x: u64) -> Found
-    requires { ⌜ Opened g (now image) ⌝ }
+    requires { ⌜ Active g (now image) ⌝ }
     ensures { λ r. ⌜ r ≡ translate (now (image .entry)) x ⌝ }
 {
     if g.size <= x {

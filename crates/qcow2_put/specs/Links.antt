@@ -29,7 +29,7 @@ pub record Filled (n a p c o : ℕ) (d : List ℕ) : Type 0 where
   pub fits : o + length d ≤ c
   pub short : n ≤ mostLength
 
--- the places of a write that takes cluster t as an L2 table and cluster k for the data
+-- the places of a write into the active table that takes cluster t as an L2 table and cluster k for the data
 unfoldable pub places : List ℕ → (g t k : ℕ) → Places
 places s g t k =
     record {
@@ -39,7 +39,7 @@ places s g t k =
       datacount = countAt s k;
       place = k * clusterSize s;
       slot = t * clusterSize s + 8 * (g % perTable s);
-      link = l1EntryAt s g;
+      link = l1EntryAt s 0 g;
     }
 
 -- each of them lies in an image of n bytes

@@ -104,30 +104,30 @@ no-numbers f i k e = same-numbers f (λ x. NoTable) i 0 k e ∙ none 0 k
     none a zero = refl
     none a (suc n) = none (suc a) n
 
-pub ways-are : (s : List ℕ) (guest k : ℕ) → waysNumber s guest k ≡ numbers (way s) guest k
+pub ways-are : (s : List ℕ) (r guest k : ℕ) → waysNumber s r guest k ≡ numbers (way s r) guest k
 unfolding waysNumber numbers
-ways-are s guest zero = refl
-ways-are s guest (suc k) = rw (ways-are s (suc guest) k)
+ways-are s r guest zero = refl
+ways-are s r guest (suc k) = rw (ways-are s r (suc guest) k)
 
 -- the ways to k guest clusters, i of which are passed and m are the next
-module _ (s : List ℕ) (guest k i : ℕ) where
+module _ (s : List ℕ) (r guest k i : ℕ) where
   module _ (m : ℕ) (h : m ≤ k - i) where
-    pub ways-stop : (waysNumber s (guest + i) m ≡ 0 → ⊥) → waysNumber s (guest + i) (k - i) ≡ waysNumber s (guest + i) m
-    ways-stop n = ways-are s (guest + i) (k - i) ∙ numbers-stop (way s) (guest + i) (k - i) m h (λ z. n (ways-are s (guest + i) m ∙ z)) ∙ sym (ways-are s (guest + i) m)
+    pub ways-stop : (waysNumber s r (guest + i) m ≡ 0 → ⊥) → waysNumber s r (guest + i) (k - i) ≡ waysNumber s r (guest + i) m
+    ways-stop n = ways-are s r (guest + i) (k - i) ∙ numbers-stop (way s r) (guest + i) (k - i) m h (λ z. n (ways-are s r (guest + i) m ∙ z)) ∙ sym (ways-are s r (guest + i) m)
 
-    pub ways-next : waysNumber s (guest + i) m ≡ 0 → waysNumber s (guest + i) (k - i) ≡ waysNumber s (guest + (i + m)) (k - (i + m))
+    pub ways-next : waysNumber s r (guest + i) m ≡ 0 → waysNumber s r (guest + i) (k - i) ≡ waysNumber s r (guest + (i + m)) (k - (i + m))
     ways-next z =
         let d : guest + i + m ≡ guest + (i + m) = omega arith in
         let e : k - i - m ≡ k - (i + m) = omega arith in
-        ways-are s (guest + i) (k - i) ∙ numbers-next (way s) (guest + i) (k - i) m h (sym (ways-are s (guest + i) m) ∙ z) ∙ rw (d, e) (sym (ways-are s (guest + (i + m)) (k - (i + m))))
+        ways-are s r (guest + i) (k - i) ∙ numbers-next (way s r) (guest + i) (k - i) m h (sym (ways-are s r (guest + i) m) ∙ z) ∙ rw (d, e) (sym (ways-are s r (guest + (i + m)) (k - (i + m))))
 
-  pub ways-end : k ≤ i → waysNumber s (guest + i) (k - i) ≡ 0
+  pub ways-end : k ≤ i → waysNumber s r (guest + i) (k - i) ≡ 0
   unfolding waysNumber
   ways-end h = let e : k - i ≡ 0 = omega arith in rw e
 
 -- ---- k guest clusters with one L1 entry e
-module _ (g : Geometry) (s : List ℕ) (o : Opened g s) (guest k : ℕ) (l : guest % perTable s + k ≤ perTable s) (e : ℕ) (q : e ≡ l1Entry s guest) where
-  row : (j : ℕ) → j < k → e ≡ l1Entry s (guest + j)
+module _ (g : Geometry) (s : List ℕ) (o : Opened g s) (guest k : ℕ) (l : guest % perTable s + k ≤ perTable s) (e : ℕ) (q : e ≡ l1Entry s (g .root) guest) where
+  row : (j : ℕ) → j < k → e ≡ l1Entry s (g .root) (guest + j)
   unfolding l1Entry l1EntryAt
   row j h = q ∙ rw (same-cluster (perTable s) guest j (omega arith))
 
@@ -141,22 +141,22 @@ module _ (g : Geometry) (s : List ℕ) (o : Opened g s) (guest k : ℕ) (l : gue
       let j : i ≡ guest % perTable s = rw (o .is-per) at d in
       rw n (((o .low, o .high), (rw (o .is-cluster) (c-in s f), o .short)), ((omega arith, omega (arith, o .is-cluster, o .eight, j, l)), omega (arith, o .is-cluster, o .short)))
 
-  pub row-bad : goodL1 (2 ^ g .bits) (length s) e ≡ false → 0 < k → 12 ≡ waysNumber s guest k
+  pub row-bad : goodL1 (2 ^ g .bits) (length s) e ≡ false → 0 < k → 12 ≡ waysNumber s (g .root) guest k
   unfolding wayNumber
   row-bad h p =
-      let v : numbers (way s) guest 1 ≡ 12 = one (way s) guest ∙ ap wayNumber (sym (way-bad g s o guest e q h)) in
-      sym (ways-are s guest k ∙ numbers-stop (way s) guest k 1 p (λ z. omega (arith, v, z)) ∙ v)
+      let v : numbers (way s (g .root)) guest 1 ≡ 12 = one (way s (g .root)) guest ∙ ap wayNumber (sym (way-bad g s o guest e q h)) in
+      sym (ways-are s (g .root) guest k ∙ numbers-stop (way s (g .root)) guest k 1 p (λ z. omega (arith, v, z)) ∙ v)
 
   module _ (h : goodL1 (2 ^ g .bits) (length s) e ≡ true) where
-    pub row-none : place e ≡ 0 → 0 ≡ waysNumber s guest k
-    row-none z = sym (ways-are s guest k ∙ no-numbers (way s) guest k (λ j b. sym (way-none g s o (guest + j) e (row j b) h z)))
+    pub row-none : place e ≡ 0 → 0 ≡ waysNumber s (g .root) guest k
+    row-none z = sym (ways-are s (g .root) guest k ∙ no-numbers (way s (g .root)) guest k (λ j b. sym (way-none g s o (guest + j) e (row j b) h z)))
 
     pub row-some : (place e ≡ 0 → ⊥)
-        → numbers (slot (g .version) (2 ^ g .bits) (length s) (place e) (part s (place e) (2 ^ g .bits))) (guest % 2 ^ (g .bits - 3)) k ≡ waysNumber s guest k
+        → numbers (slot (g .version) (2 ^ g .bits) (length s) (place e) (part s (place e) (2 ^ g .bits))) (guest % 2 ^ (g .bits - 3)) k ≡ waysNumber s (g .root) guest k
     unfolding slot
-    row-some z = sym (ways-are s guest k ∙ same-numbers (way s) _ guest (guest % 2 ^ (g .bits - 3)) k (λ j b. step j b))
+    row-some z = sym (ways-are s (g .root) guest k ∙ same-numbers (way s (g .root)) _ guest (guest % 2 ^ (g .bits - 3)) k (λ j b. step j b))
       where
-        step : (j : ℕ) → j < k → way s (guest + j) ≡ slot (g .version) (2 ^ g .bits) (length s) (place e) (part s (place e) (2 ^ g .bits)) (guest % 2 ^ (g .bits - 3) + j)
+        step : (j : ℕ) → j < k → way s (g .root) (guest + j) ≡ slot (g .version) (2 ^ g .bits) (length s) (place e) (part s (place e) (2 ^ g .bits)) (guest % 2 ^ (g .bits - 3) + j)
         step j b =
             let i : guest % 2 ^ (g .bits - 3) + j ≡ (guest + j) % 2 ^ (g .bits - 3) = rw (o .is-per) (sym (same-rest (perTable s) guest j (omega arith))) in
             sym (table-entry g s o (place e) (guest + j) _ i ∙ way-some g s o (guest + j) e (row j b) h z)

@@ -3,7 +3,7 @@ ghost use mathlib.Core.Path.{_≡_};
 ghost use Prim.Native.Nat.{ℕ, _+_, _-_, _*_, _/_, _%_, _^_, _<_, _≤_};
 ghost use mathlib.Core.Bool.{true};
 ghost use lib.ListN.{length};
-ghost use Rattle.qcow2_spec.specs.Header.{mostBits, mostLength, mostSize, perTable, l1Size};
+ghost use Rattle.qcow2_spec.specs.Header.{mostBits, mostLength, mostReach, perTable, rootSize};
 ghost use Rattle.qcow2_spec.specs.Guest.{entryWay, wayNumber, waysNumber, touched, readNumber};
 ghost use Rattle.qcow2_spec.specs.Opened.{Opened};
 ghost use Rattle.qcow2_range.specs.Slots.{slot, numbers};
@@ -75,8 +75,8 @@ fn table_number(
 
 // The same for the k guest clusters from one on, which all have one L1 entry.
 fn row_number(image: &[u8], g: Geometry, guest: u64, k: usize) -> u8
-    requires { ⌜ ((Opened g (now image)) × (guest / perTable (now image) < l1Size (now image))) × ((0 < k) × (guest % perTable (now image) + k ≤ perTable (now image))) ⌝ }
-    ensures { λ r. ⌜ r ≡ waysNumber (now (image .entry)) guest k ⌝ }
+    requires { ⌜ ((Opened g (now image)) × (guest / perTable (now image) < rootSize (now image) (g .root))) × ((0 < k) × (guest % perTable (now image) + k ≤ perTable (now image))) ⌝ }
+    ensures { λ r. ⌜ r ≡ waysNumber (now (image .entry)) (g .root) guest k ⌝ }
 {
     let n = image.len() as u64;
     let e = qcow2_guest::l1_entry(image, g, guest);
@@ -94,8 +94,8 @@ fn row_number(image: &[u8], g: Geometry, guest: u64, k: usize) -> u8
 
 // The number of the first bad way among the k guest clusters from one on, or 0. One L1 entry at a time.
 fn ways_number(image: &[u8], g: Geometry, guest: u64, k: u64) -> u8
-    requires { ⌜ (Opened g (now image)) × ((guest + k ≤ mostSize) × (guest + k ≤ l1Size (now image) * perTable (now image))) ⌝ }
-    ensures { λ r. ⌜ r ≡ waysNumber (now (image .entry)) guest k ⌝ }
+    requires { ⌜ (Opened g (now image)) × ((guest + k ≤ mostReach) × (guest + k ≤ rootSize (now image) (g .root) * perTable (now image))) ⌝ }
+    ensures { λ r. ⌜ r ≡ waysNumber (now (image .entry)) (g .root) guest k ⌝ }
 {
     let mut i = 0;
     while i < k {
@@ -111,7 +111,7 @@ fn ways_number(image: &[u8], g: Geometry, guest: u64, k: u64) -> u8
 
 // How many guest clusters a range touches.
 fn touched_count(x: u64, len: usize, bits: u32) -> u64
-    requires { ⌜ (bits ≤ mostBits) × (x + len ≤ mostSize) ⌝ }
+    requires { ⌜ (bits ≤ mostBits) × (x + len ≤ mostReach) ⌝ }
     ensures { λ r. ⌜ r ≡ touched (2 ^ bits) x len ⌝ }
 {
     if len == 0 {
@@ -123,7 +123,7 @@ fn touched_count(x: u64, len: usize, bits: u32) -> u64
 // The number of a read of len bytes from x on, or 0. The end of the range is not formed before it is known to lie on the disk.
 pub fn read_number(image: &[u8], g: Geometry, x: u64, len: usize) -> u8
     requires { ⌜ Opened g (now image) ⌝ }
-    ensures { λ r. ⌜ r ≡ readNumber (now (image .entry)) x len ⌝ }
+    ensures { λ r. ⌜ r ≡ readNumber (now (image .entry)) (g .root) x len ⌝ }
 {
     if g.size < x {
         return 11;

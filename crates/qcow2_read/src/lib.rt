@@ -3,27 +3,28 @@ ghost use mathlib.Core.Path.{_≡_};
 ghost use Prim.Native.Nat.{_+_, _-_, _/_, _%_, _^_, _<_, _≤_};
 ghost use mathlib.Core.List.{_++_};
 ghost use lib.ListN.{length, take, drop};
-ghost use Rattle.qcow2_spec.specs.Header.{mostBits, mostLength, diskSize, perTable, l1Size};
-ghost use Rattle.qcow2_spec.specs.Guest.{guestBytes, readNumber, readInto, inPlace};
-ghost use Rattle.qcow2_spec.specs.Opened.{Opened};
+ghost use Rattle.qcow2_spec.specs.Header.{mostBits, mostLength, perTable, rootSize};
+ghost use Rattle.qcow2_spec.specs.Guest.{reach, guestBytes, readNumber, readInto, inPlace};
+ghost use Rattle.qcow2_spec.specs.Opened.{Opened, Active};
+ghost use Rattle.qcow2_entry.specs.Plain.{bare};
 ghost use Rattle.qcow2_guest.specs.Rows.{Lent, tableOf, rowLeft};
 use qcow2_spec::Found;
 use qcow2_spec::Geometry;
 
 // The host offset that a plain entry gives for guest offset x. By the cluster's number, so that the entry stays one number.
 fn host_at(e: u64, x: u64, bits: u32) -> usize
-    requires { ⌜ (bits ≤ mostBits) × ((9223372036854775808 < e) × ((e - 9223372036854775808 ≤ mostLength) × ((e - 9223372036854775808) % 2 ^ bits ≡ 0))) ⌝ }
-    ensures { λ r. ⌜ r ≡ e - 9223372036854775808 + x % 2 ^ bits ⌝ }
+    requires { ⌜ (bits ≤ mostBits) × ((bare e ≤ mostLength) × (bare e % 2 ^ bits ≡ 0)) ⌝ }
+    ensures { λ r. ⌜ r ≡ bare e + x % 2 ^ bits ⌝ }
 {
-    let c = power::quotient(e - 9223372036854775808, bits);
+    let c = power::quotient(qcow2_entry::twice(e), bits + 1);
     (c * power::power(bits) + power::rest(x, bits)) as usize
 }
 
 // Fills a part with the disk's bytes from x on, which all lie in one guest cluster, whose L2 entry is in the lent table. Only a plain
 // entry gives bytes other than 0.
 fn read_piece(image: &[u8], table: &[u8], g: Geometry, x: u64, part: &mut [u8])
-    requires { ⌜ (Opened g (now image)) × ((x < diskSize (now image)) × ((Lent (now image) (now table) x 1) × (x % 2 ^ (g .bits) + length (now part) ≤ 2 ^ (g .bits)))) ⌝ }
-    ensures { λ _. ⌜ now (part .exit) ≡ guestBytes (now (image .entry)) x (length (now (part .entry))) ⌝ }
+    requires { ⌜ (Opened g (now image)) × ((x < reach (now image) (g .root)) × ((Lent (now image) (g .root) (now table) x 1) × (x % 2 ^ (g .bits) + length (now part) ≤ 2 ^ (g .bits)))) ⌝ }
+    ensures { λ _. ⌜ now (part .exit) ≡ guestBytes (now (image .entry)) (g .root) x (length (now (part .entry))) ⌝ }
 {
     let n = part.len();
     let i = power::rest(power::quotient(x, g.bits), g.bits - 3) as usize;
@@ -38,8 +39,8 @@ fn read_piece(image: &[u8], table: &[u8], g: Geometry, x: u64, part: &mut [u8])
 
 // Fills the next piece of the output and returns how much is filled then.
 fn next_piece(image: &[u8], table: &[u8], g: Geometry, x: u64, out: &mut [u8], done: usize) -> usize
-    requires { ⌜ (Opened g (now image)) × ((x + length (now out) ≤ diskSize (now image)) × ((Lent (now image) (now table) x (length (now out))) × (done < length (now out)))) ⌝ }
-    ensures { λ r. ⌜ ((done < r) × (r ≤ length (now (out .entry)))) × (now (out .exit) ≡ take done (now (out .entry)) ++ (guestBytes (now (image .entry)) (x + done) (r - done) ++ drop r (now (out .entry)))) ⌝ }
+    requires { ⌜ (Opened g (now image)) × ((x + length (now out) ≤ reach (now image) (g .root)) × ((Lent (now image) (g .root) (now table) x (length (now out))) × (done < length (now out)))) ⌝ }
+    ensures { λ r. ⌜ ((done < r) × (r ≤ length (now (out .entry)))) × (now (out .exit) ≡ take done (now (out .entry)) ++ (guestBytes (now (image .entry)) (g .root) (x + done) (r - done) ++ drop r (now (out .entry)))) ⌝ }
 {
     let y = x + (done as u64);
     let m = qcow2_guest::piece(y, out.len() - done, g.bits);
@@ -49,8 +50,8 @@ fn next_piece(image: &[u8], table: &[u8], g: Geometry, x: u64, out: &mut [u8], d
 
 // Fills the output with the disk's bytes from x on, whose L2 entries are all in the lent table.
 fn read_below(image: &[u8], table: &[u8], g: Geometry, x: u64, out: &mut [u8])
-    requires { ⌜ (Opened g (now image)) × ((x + length (now out) ≤ diskSize (now image)) × (Lent (now image) (now table) x (length (now out)))) ⌝ }
-    ensures { λ _. ⌜ now (out .exit) ≡ guestBytes (now (image .entry)) x (length (now (out .entry))) ⌝ }
+    requires { ⌜ (Opened g (now image)) × ((x + length (now out) ≤ reach (now image) (g .root)) × (Lent (now image) (g .root) (now table) x (length (now out)))) ⌝ }
+    ensures { λ _. ⌜ now (out .exit) ≡ guestBytes (now (image .entry)) (g .root) x (length (now (out .entry))) ⌝ }
 {
     let mut done = 0;
     while done < out.len() {
@@ -60,8 +61,8 @@ fn read_below(image: &[u8], table: &[u8], g: Geometry, x: u64, out: &mut [u8])
 
 // The place of the L2 table of a guest cluster; 0 where it has none.
 fn table_of(image: &[u8], g: Geometry, guest: u64) -> usize
-    requires { ⌜ (Opened g (now image)) × (guest / perTable (now image) < l1Size (now image)) ⌝ }
-    ensures { λ r. ⌜ r ≡ tableOf (now (image .entry)) guest ⌝ }
+    requires { ⌜ (Opened g (now image)) × (guest / perTable (now image) < rootSize (now image) (g .root)) ⌝ }
+    ensures { λ r. ⌜ r ≡ tableOf (now (image .entry)) (g .root) guest ⌝ }
 {
     let e = qcow2_guest::l1_entry(image, g, guest);
     if qcow2_entry::good_l1(e, image.len() as u64, g.bits) {
@@ -72,8 +73,8 @@ fn table_of(image: &[u8], g: Geometry, guest: u64) -> usize
 
 // Fills a part with the disk's bytes from x on, which all have one L1 entry. Their L2 table is lent once, as a part of the image.
 fn read_row(image: &[u8], g: Geometry, x: u64, part: &mut [u8])
-    requires { ⌜ (Opened g (now image)) × ((x + length (now part) ≤ diskSize (now image)) × ((0 < length (now part)) × (length (now part) ≤ rowLeft (2 ^ (g .bits)) (2 ^ (g .bits - 3)) x))) ⌝ }
-    ensures { λ _. ⌜ now (part .exit) ≡ guestBytes (now (image .entry)) x (length (now (part .entry))) ⌝ }
+    requires { ⌜ (Opened g (now image)) × ((x + length (now part) ≤ reach (now image) (g .root)) × ((0 < length (now part)) × (length (now part) ≤ rowLeft (2 ^ (g .bits)) (2 ^ (g .bits - 3)) x))) ⌝ }
+    ensures { λ _. ⌜ now (part .exit) ≡ guestBytes (now (image .entry)) (g .root) x (length (now (part .entry))) ⌝ }
 {
     let n = part.len();
     let t = table_of(image, g, power::quotient(x, g.bits));
@@ -87,8 +88,8 @@ fn read_row(image: &[u8], g: Geometry, x: u64, part: &mut [u8])
 
 // Fills what has the next L1 entry, and returns how much is filled then.
 fn read_next(image: &[u8], g: Geometry, x: u64, out: &mut [u8], done: usize) -> usize
-    requires { ⌜ (Opened g (now image)) × ((x + length (now out) ≤ diskSize (now image)) × (done < length (now out))) ⌝ }
-    ensures { λ r. ⌜ ((done < r) × (r ≤ length (now (out .entry)))) × (now (out .exit) ≡ take done (now (out .entry)) ++ (guestBytes (now (image .entry)) (x + done) (r - done) ++ drop r (now (out .entry)))) ⌝ }
+    requires { ⌜ (Opened g (now image)) × ((x + length (now out) ≤ reach (now image) (g .root)) × (done < length (now out))) ⌝ }
+    ensures { λ r. ⌜ ((done < r) × (r ≤ length (now (out .entry)))) × (now (out .exit) ≡ take done (now (out .entry)) ++ (guestBytes (now (image .entry)) (g .root) (x + done) (r - done) ++ drop r (now (out .entry)))) ⌝ }
 {
     let y = x + (done as u64);
     let m = qcow2_guest::row_left(y, out.len() - done, g.bits);
@@ -98,8 +99,8 @@ fn read_next(image: &[u8], g: Geometry, x: u64, out: &mut [u8], done: usize) -> 
 
 // Fills the output with the disk's bytes from x on.
 fn read_all(image: &[u8], g: Geometry, x: u64, out: &mut [u8])
-    requires { ⌜ (Opened g (now image)) × (x + length (now out) ≤ diskSize (now image)) ⌝ }
-    ensures { λ _. ⌜ now (out .exit) ≡ guestBytes (now (image .entry)) x (length (now (out .entry))) ⌝ }
+    requires { ⌜ (Opened g (now image)) × (x + length (now out) ≤ reach (now image) (g .root)) ⌝ }
+    ensures { λ _. ⌜ now (out .exit) ≡ guestBytes (now (image .entry)) (g .root) x (length (now (out .entry))) ⌝ }
 {
     let mut done = 0;
     while done < out.len() {
@@ -110,7 +111,7 @@ fn read_all(image: &[u8], g: Geometry, x: u64, out: &mut [u8])
 // Reads the disk's bytes from x on. The output is filled whole or, refused, not at all.
 pub fn read_into(image: &[u8], g: Geometry, x: u64, out: &mut [u8]) -> u8
     requires { ⌜ Opened g (now image) ⌝ }
-    ensures { λ r. ⌜ (r ≡ readNumber (now (image .entry)) x (length (now (out .entry)))) × (now (out .exit) ≡ readInto (now (image .entry)) x (now (out .entry))) ⌝ }
+    ensures { λ r. ⌜ (r ≡ readNumber (now (image .entry)) (g .root) x (length (now (out .entry)))) × (now (out .exit) ≡ readInto (now (image .entry)) (g .root) x (now (out .entry))) ⌝ }
 {
     let k = qcow2_range::read_number(image, g, x, out.len());
     if k != 0 {
@@ -122,7 +123,7 @@ pub fn read_into(image: &[u8], g: Geometry, x: u64, out: &mut [u8]) -> u8
 
 // The disk's bytes from x on as a part of the image, to the end of the cluster or of the disk; empty where x has no host offset.
 pub fn part_in<'a>(image: &'a [u8], g: Geometry, x: u64) -> &'a [u8]
-    requires { ⌜ Opened g (now image) ⌝ }
+    requires { ⌜ Active g (now image) ⌝ }
     ensures { λ r. ⌜ now r ≡ inPlace (now (image .entry)) x ⌝ }
 {
     let f = qcow2_guest::translated(image, g, x);

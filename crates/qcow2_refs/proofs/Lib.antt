@@ -1,6 +1,4 @@
-pub mod Places
-pub mod Walks
-pub mod GoodEntries
-pub mod Runs
+pub mod Tables
+pub mod Trees
 pub mod Fronts
 pub mod Passing

@@ -1,5 +1,5 @@
--- In an image whose verdict is leaks, no figure is above 1 and there is a count to set. Assumes nothing.
-use Prim.Native.Nat.{ℕ, zero, suc, _+_, _≤_, _<_}
+-- In an image whose verdict is leaks there is a count to set. Assumes nothing.
+use Prim.Native.Nat.{ℕ, zero, suc, _+_, _<_}
 use native.Mathlib.Nat.{add-zero, add-suc, suc-add, zero-add, not-suc-le-zero}
 use native.Mathlib.Omega.{arith}
 use mathlib.Core.Path.{_≡_, refl, sym, subst, _∙_}
@@ -38,9 +38,6 @@ module _ (s : List ℕ) (f : Facts s) (m : ℕ) (v : verdict s ≡ Leaks m) wher
   leaks-sound by = healthy-sound s f by (subst Healthy (sym v) tt)
 
   module _ (k : Sound (geo s) (code s) (mem (clusterSize s) s)) where
-    pub figure-one : (c : ℕ) → c < clusters s → getD (figuresOf s) c 0 ≤ 1
-    figure-one c l = rw (figure-own s f k c l) (k .inv .single c l)
-
     pub some-leak : 0 < length (repairUnits s (figuresOf s) 0 (clusters s))
     some-leak = go (length (repairUnits s (figuresOf s) 0 (clusters s))) refl
       where

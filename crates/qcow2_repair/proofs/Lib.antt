@@ -1,5 +1,3 @@
-pub mod Fixes
-pub mod Wholes
 pub mod Midway
 pub mod Alone
 pub mod Apart

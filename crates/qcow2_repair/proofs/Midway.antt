@@ -4,13 +4,10 @@ use native.Mathlib.Nat.{add-zero, add-suc}
 use native.Mathlib.Omega.{arith}
 use mathlib.Core.Path.{_≡_, refl, sym, ap, subst, _∙_}
 use mathlib.Core.Logic.{_⊎_, inl, inr}
-use mathlib.Core.Bool.{Bool, true, false}
-use lib.Dec.{ltb}
-use borrow.Author.Tests.{ltb-true, ltb-false}
 use mathlib.Core.List.{List, _++_, append-assoc, append-nil}
-use lib.ListN.{length, take, drop, getD, length-append, length-take, length-drop, List·getD-eq-default}
+use lib.ListN.{length, take, getD, length-append, length-take}
 use lib.Pow.{pow-pos}
-use lib.Seq.{take-nil, getD-take, getD-drop, length-take-le}
+use lib.Seq.{take-nil}
 use Rattle.endian.specs.Big.{be64}
 use Rattle.endian.proofs.Laws.{be64-same}
 use Rattle.widths.specs.Width.{span, number, Inside}
@@ -22,16 +19,19 @@ use Rattle.units.specs.declared.Outcome.{Outcome}
 use Rattle.units.proofs.Laws.{length-applyAll}
 use Rattle.units.proofs.Steps.{two, stored}
 use Rattle.units.proofs.Elsewhere.{Off, none, off-append, untouched, Beside, lone, beside-append, unmoved}
-use Rattle.tally.proofs.Laws.{length-figures}
+use Rattle.tally.proofs.Laws.{length-figures, figures-small}
+use Rattle.tally.proofs.Wide.{Fit}
+use Rattle.packed_wide.specs.Twos.{many, figuresIn}
+use Rattle.packed_wide.proofs.Laws.{length-wide, figures-front}
 use Rattle.qcow2_spec.specs.Header.{clusters}
-use Rattle.qcow2_spec.specs.References.{figuresOf}
+use Rattle.qcow2_spec.specs.References.{references, mostFigure, figuresOf}
 use Rattle.qcow2_spec.specs.declared.Geometry.{Geometry}
-use Rattle.packed.specs.Packed.{Single}
 use Rattle.qcow2_counts.specs.Blocks.{Reach, perOf, countPlace, tablePlace}
-use Rattle.qcow2_repair.specs.Leaks.{Figured, Laid, Ones, fixes, mendUnits}
+use Rattle.qcow2_repair.specs.Leaks.{Figured, Laid, mendUnits}
+use Rattle.qcow2_mend.specs.Fixed.{fixes}
 use Rattle.qcow2_counts.proofs.Sizes.{count-inside}
 use Rattle.qcow2_counts.proofs.Blocks.{run-block, run-index}
-use Rattle.qcow2_repair.proofs.Fixes.{off-fix, beside-fix, fixes-most, fixes-same}
+use Rattle.qcow2_mend.proofs.Fixes.{off-fix, beside-fix, fixes-most, fixes-same}
 
 -- ---- the places of the counts
 module _ (g : Geometry) (s : List ℕ) where
@@ -139,21 +139,17 @@ module _ (g : Geometry) (s fs : List ℕ) where
         }
 
 -- ---- the scratch
-pub refs-long : (s refs : List ℕ) → Figured s refs → clusters s ≤ length refs
+length-of : (s : List ℕ) → length (figuresOf s) ≡ clusters s
 unfolding figuresOf
-refs-long s refs f = omega (arith, sym (length-take (clusters s) refs) ∙ ap length f ∙ length-figures _ 0 (clusters s))
+length-of s = length-figures mostFigure (references s) 0 (clusters s)
 
--- a part of it
-module _ (refs : List ℕ) (i m q : ℕ) (e : q ≡ m) where
-  pub part-long : i + m ≤ length refs → length (take q (drop i refs)) ≡ m
-  part-long h = rw e (length-take-le m (drop i refs) (simp length-drop (omega arith)))
+pub refs-long : (s refs : List ℕ) → Figured s refs → clusters s ≤ many refs
+refs-long s refs f = omega (arith, sym (length-take (2 * clusters s) refs) ∙ ap length f ∙ length-wide (figuresOf s), length-of s)
 
-  pub part-figures : (d : ℕ) → d < m → getD (take q (drop i refs)) d 0 ≡ getD refs (i + d) 0
-  part-figures d l = rw (e, getD-take m (drop i refs) d 0 l, getD-drop)
+fit : (s : List ℕ) → Fit (figuresOf s)
+unfolding figuresOf
+fit s = figures-small mostFigure (references s) 0 (clusters s)
 
-  pub part-single : (n : ℕ) → i + m ≤ n → Ones n refs → Single (take q (drop i refs))
-  part-single n h ones d = go (ltb d m) refl
-    where
-      go : (t : Bool) → ltb d m ≡ t → getD (take q (drop i refs)) d 0 ≤ 1
-      go true l = let k : d < m = ltb-true d m l in rw (part-figures d k) (ones (i + d) (omega arith))
-      go false l = let k : m ≤ d = ltb-false d m l in rw (List·getD-eq-default (take q (drop i refs)) 0 {n = d} (rw (e, length-take) (omega arith))) (omega arith)
+-- a figure in it
+pub figure-of : (s refs : List ℕ) → Figured s refs → (k : ℕ) → k < clusters s → getD (figuresIn refs) k 0 ≡ getD (figuresOf s) k 0
+figure-of s refs f k h = figures-front refs (figuresOf s) (fit s) (rw (length-of s) f) k (omega (arith, length-of s))

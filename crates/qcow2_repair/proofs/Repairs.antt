@@ -1,11 +1,10 @@
 -- A repair of a leaking image, once the autoclear field may be cleared. Assumes nothing.
-use Prim.Native.Nat.{ℕ, zero, suc, _+_, _*_, _/_, _-_, _^_, _≤_, _<_}
+use Prim.Native.Nat.{ℕ, zero, suc, _+_, _*_, _/_, _^_, _≤_, _<_}
 use native.Mathlib.Nat.{add-zero, add-suc, suc-add, zero-add}
 use native.Mathlib.Omega.{arith}
-use mathlib.Core.Path.{_≡_, refl, sym, ap, _∙_}
+use mathlib.Core.Path.{_≡_, refl, ap, _∙_}
 use mathlib.Core.List.{List, _++_, append-assoc, append-nil}
 use lib.ListN.{length, take, getD}
-use lib.Seq.{getD-take}
 use Rattle.endian.specs.Big.{be64}
 use Rattle.endian.proofs.Laws.{SamePart, be64-same}
 use Rattle.widths.specs.Width.{span}
@@ -21,17 +20,16 @@ use Rattle.qcow2_spec.specs.Series.{Bytes}
 use Rattle.qcow2_spec.specs.Opened.{Opened}
 use Rattle.qcow2_spec.specs.declared.Geometry.{Geometry}
 use Rattle.qcow2_spec.specs.declared.Verdict.the-variants.{Leaks}
+use Rattle.packed_wide.specs.Twos.{figuresIn}
 use Rattle.qcow2_counts.specs.Blocks.{perOf, countPlace, tablePlace}
-use Rattle.qcow2_repair.specs.Leaks.{Figured, Laid, Leaking, Ones, fix, mendUnits}
+use Rattle.qcow2_repair.specs.Leaks.{Figured, Laid, Leaking, mendUnits}
+use Rattle.qcow2_mend.specs.Fixed.{fix}
 use Rattle.qcow2_counts.proofs.Sizes.{sizes, block-in, reach, count-is}
 use Rattle.qcow2_put.proofs.Clears.{clear-keeps}
-use Rattle.qcow2_repair.proofs.Fixes.{fix-same}
-use Rattle.qcow2_repair.proofs.Alone.{leaks-sound, figure-one, some-leak}
+use Rattle.qcow2_mend.proofs.Fixes.{fix-same}
+use Rattle.qcow2_repair.proofs.Alone.{leaks-sound, some-leak}
 use Rattle.qcow2_repair.proofs.Apart.{apart}
-
--- a figure in the scratch
-figure-of : (s refs : List ℕ) → Figured s refs → (k : ℕ) → k < clusters s → getD refs k 0 ≡ getD (figuresOf s) k 0
-figure-of s refs f k h = sym (getD-take (clusters s) refs k 0 h) ∙ ap (λ (l : List ℕ). getD l k 0) f
+use Rattle.qcow2_repair.proofs.Midway.{figure-of}
 
 -- what a repair is told holds after a check that said leaks
 pub leaking : (g : Geometry) (s refs : List ℕ) (m : ℕ) → Bytes s → Opened g s → Figured s refs → verdict s ≡ Leaks m → Leaking g s refs
@@ -43,7 +41,6 @@ leaking g s refs m by o f v =
       apart = apart s x k;
       figures = f;
       some = some-leak s x m v k;
-      ones = λ c h. rw (figure-of s refs f c h) (figure-one s x m v k c h);
     }
 
 -- ---- the list of the definition is the one of the code
@@ -73,9 +70,6 @@ cleared-kept s t a h e =
 module _ (g : Geometry) (s refs : List ℕ) (l : Leaking g s refs) where
   in-s : (k : ℕ) → k < g .clusters → k < clusters s
   in-s k h = rw (l .opened .is-clusters) at h
-
-  pub ones-in : Ones (g .clusters) refs
-  ones-in k h = l .ones k (in-s k h)
 
   laid : Laid g s
   laid =
@@ -108,17 +102,17 @@ module _ (g : Geometry) (s refs : List ℕ) (l : Leaking g s refs) where
           table = λ j k h m. rw (table-kept j) (laid .table j k h m);
         }
 
-    mend-kept : (k : ℕ) → k ≤ g .clusters → mendUnits g t refs k ≡ mendUnits g s refs k
+    mend-kept : (k : ℕ) → k ≤ g .clusters → mendUnits g t (figuresIn refs) k ≡ mendUnits g s (figuresIn refs) k
     unfolding mendUnits
     mend-kept zero h = refl
     mend-kept (suc k) h =
         let q = countPlace g s k in
         let p : 8 * 512 ≤ q = rw (count-is g s (l .opened) k) (l .apart .past k (in-s k h)) in
-        rw (mend-kept k (omega arith), table-kept k, fix-same (g .order) s t q (getD refs k 0) (number-same (2 ^ g .order) t q s q refl (e .same (q / 8) (span (2 ^ g .order)) (omega arith))))
+        rw (mend-kept k (omega arith), table-kept k, fix-same (g .order) s t q (getD (figuresIn refs) k 0) (number-same (2 ^ g .order) t q s q refl (e .same (q / 8) (span (2 ^ g .order)) (omega arith))))
 
     -- the same list, whatever the field
-    pub mended : mendUnits g t refs (g .clusters) ≡ repairUnits s (figuresOf s) 0 (clusters s)
+    pub mended : mendUnits g t (figuresIn refs) (g .clusters) ≡ repairUnits s (figuresOf s) 0 (clusters s)
     mended =
         mend-kept (g .clusters) (omega arith)
-        ∙ ap (mendUnits g s refs) (l .opened .is-clusters)
-        ∙ mend-is g s (figuresOf s) refs (l .opened) (clusters s) (figure-of s refs (l .figures))
+        ∙ ap (mendUnits g s (figuresIn refs)) (l .opened .is-clusters)
+        ∙ mend-is g s (figuresOf s) (figuresIn refs) (l .opened) (clusters s) (figure-of s refs (l .figures))

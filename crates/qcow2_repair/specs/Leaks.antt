@@ -1,14 +1,12 @@
--- What a repair is told, and its units in one refcount block.
+-- What a repair is told, and its units.
 -- Assumes nothing.
 use Prim.Native.Nat.{ℕ, zero, suc, _+_, _*_, _^_, _≤_, _<_}
 use mathlib.Core.Path.{_≡_}
 use mathlib.Core.Logic.{_⊎_}
-use mathlib.Core.List.{List, [], _∷_, _++_}
-use lib.Dec.{eqb}
+use mathlib.Core.List.{List, [], _++_}
 use lib.ListN.{length, getD, take}
-use Rattle.choice.specs.Pick.{if_then_else_}
-use Rattle.widths.specs.Width.{number}
-use Rattle.units.specs.Units.{UnitStore, count}
+use Rattle.units.specs.Units.{UnitStore}
+use Rattle.tally.specs.Tally.{wide}
 use Rattle.qcow2_spec.specs.Header.{mostBits, mostLength, mostOrder, width, clusters, blocks, tableAt}
 use Rattle.qcow2_spec.specs.Counts.{countAt}
 use Rattle.qcow2_spec.specs.References.{figuresOf}
@@ -16,6 +14,7 @@ use Rattle.qcow2_spec.specs.Check.{repairUnits}
 use Rattle.qcow2_spec.specs.Opened.{Opened}
 use Rattle.qcow2_spec.specs.declared.Geometry.{Geometry}
 use Rattle.qcow2_counts.specs.Blocks.{Reach, countPlace, tablePlace}
+use Rattle.qcow2_mend.specs.Fixed.{fix}
 
 -- the counts lie apart from each other, from the refcount table and, as that does, from the header, as they do in an image that is not damaged
 pub record Apart (s : List ℕ) : Type 0 where
@@ -24,21 +23,16 @@ pub record Apart (s : List ℕ) : Type 0 where
   pub past : (k : ℕ) → k < clusters s → 8 * 512 ≤ countAt s k
   pub table-past : 512 ≤ tableAt s
 
--- the scratch holds the figures
+-- the scratch begins with the figures, two bytes each
 abbrev pub Figured : (s refs : List ℕ) → Type 0
-Figured s refs = take (clusters s) refs ≡ figuresOf s
+Figured s refs = take (2 * clusters s) refs ≡ wide (figuresOf s)
 
--- no figure of the first n is above 1
-abbrev pub Ones : (n : ℕ) (refs : List ℕ) → Type 0
-Ones n refs = (k : ℕ) → k < n → getD refs k 0 ≤ 1
-
--- a leaking image: there is a count to set, and none is to be above 1
+-- a leaking image: there is a count to set
 pub record Leaking (g : Geometry) (s refs : List ℕ) : Type 0 where
   pub opened : Opened g s
   pub apart : Apart s
   pub figures : Figured s refs
   pub some : 0 < length (repairUnits s (figuresOf s) 0 (clusters s))
-  pub ones : Ones (clusters s) refs
 
 -- what setting the counts needs of an image: by its refcount table they lie in it, apart from each other and from that table
 pub record Laid (g : Geometry) (s : List ℕ) : Type 0 where
@@ -49,15 +43,6 @@ pub record Laid (g : Geometry) (s : List ℕ) : Type 0 where
   pub reach : (k : ℕ) → k < g .clusters → Reach g s k
   pub counts : (j k : ℕ) → j < k → k < g .clusters → (countPlace g s j + 2 ^ g .order ≤ countPlace g s k) ⊎ (countPlace g s k + 2 ^ g .order ≤ countPlace g s j)
   pub table : (j k : ℕ) → j < g .clusters → k < g .clusters → (countPlace g s j + 2 ^ g .order ≤ 8 * tablePlace g k) ⊎ (8 * (tablePlace g k + 8) ≤ countPlace g s j)
-
--- the unit of the count of 2 ^ o bits at a place that is to be v: none where it is
-unfoldable pub fix : (o : ℕ) → List ℕ → (at v : ℕ) → List UnitStore
-fix o s at v = if eqb (number (2 ^ o) s at) v then [] else count (2 ^ o) at v ∷ []
-
--- the units of the first k counts from a place on that are to be fs
-unfoldable pub fixes : (o : ℕ) (s : List ℕ) (at : ℕ) (fs : List ℕ) → ℕ → List UnitStore
-fixes o s at fs zero = []
-fixes o s at fs (suc k) = fixes o s at fs k ++ fix o s (at + 2 ^ o * k) (getD fs k 0)
 
 -- the units of the first k clusters' counts, by the refcount table, that are to be fs
 unfoldable pub mendUnits : Geometry → (s fs : List ℕ) → ℕ → List UnitStore

@@ -10,8 +10,8 @@ use lib.ListN.{length, drop, length-drop}
 use lib.Seq.{length-take-le}
 use lib.Pow.{pow-pos}
 use Rattle.endian.specs.Big.{be64, part}
-use Rattle.qcow2_spec.specs.Header.{clusterSize, diskSize, mostLength}
-use Rattle.qcow2_spec.specs.Guest.{located}
+use Rattle.qcow2_spec.specs.Header.{clusterSize, mostLength}
+use Rattle.qcow2_spec.specs.Guest.{reach, located}
 use Rattle.qcow2_spec.specs.Runs.{moved, foundHost, goesOn}
 use Rattle.qcow2_spec.specs.Opened.{Opened}
 use Rattle.qcow2_spec.specs.declared.Geometry.{Geometry}
@@ -36,13 +36,13 @@ moved-moved Absent i j = refl
 moved-moved (Refused k) i j = refl
 
 -- a host offset is small
-pub host-small : (g : Geometry) (s : List ℕ) → Opened g s → (x : ℕ) (f : Found) → x < diskSize s → f ≡ located s x → foundHost f ≤ mostLength
+pub host-small : (g : Geometry) (s : List ℕ) → Opened g s → (x : ℕ) (f : Found) → x < reach s (g .root) → f ≡ located s (g .root) x → foundHost f ≤ mostLength
 host-small g s o x (Host h) l d = omega (arith, host-in g s o x h l (sym d), o .short)
 host-small g s o x Zeros l d = omega arith
 host-small g s o x Absent l d = omega arith
 host-small g s o x (Refused k) l d = omega arith
 
-module _ (g : Geometry) (s : List ℕ) (o : Opened g s) (x : ℕ) (f : Found) (i left : ℕ) (d : f ≡ located s x) (a : Ahead g s x i left) (t : ℕ) (b : Below s t (x + i) left) where
+module _ (g : Geometry) (s : List ℕ) (o : Opened g s) (x : ℕ) (f : Found) (i left : ℕ) (d : f ≡ located s (g .root) x) (a : Ahead g s x i left) (t : ℕ) (b : Below s (g .root) t (x + i) left) where
   abbrev C : ℕ
   C = 2 ^ g .bits
 
@@ -73,12 +73,12 @@ module _ (g : Geometry) (s : List ℕ) (o : Opened g s) (x : ℕ) (f : Found) (i
     entry : be64 (part s t C) (8 * (from + q)) ≡ be64 s (t + 8 * (from + q))
     entry = part8 s t C (8 * (from + q)) (omega (arith, index q h, o .eight, o .is-cluster, o .is-per))
 
-    start-found : located s y ≡ entryFound (g .version) C (length s) (be64 (part s t C) (8 * (from + q))) 0
+    start-found : located s (g .root) y ≡ entryFound (g .version) C (length s) (be64 (part s t C) (8 * (from + q))) 0
     start-found =
-        let u = found g s o t y (below-from s t (x + i) left (q * C) 1 (omega arith) b) (from + q) _ place-of entry in
+        let u = found g s o t y (below-from s (g .root) t (x + i) left (q * C) 1 (omega arith) b) (from + q) _ place-of entry in
         sym (rw aligned at u) ∙ entry-way (g .version) C (length s) (t + 8 * (from + q)) _ 0
 
-    goes-at : goesOn s x (i + q * C) ≡ entryGoes (g .version) C (length s) (part s t C) (moved f i) from (from + q)
+    goes-at : goesOn s (g .root) x (i + q * C) ≡ entryGoes (g .version) C (length s) (part s t C) (moved f i) from (from + q)
     unfolding goesOn entryGoes
     goes-at =
         let e : x + (i + q * C) ≡ y = omega arith in
@@ -86,13 +86,13 @@ module _ (g : Geometry) (s : List ℕ) (o : Opened g s) (x : ℕ) (f : Found) (i
         rw (e, start-found, k, moved-moved, d)
 
     -- and with the first byte the others of the guest cluster
-    goes-on : goesOn s x (i + q * C) ≡ true → (j : ℕ) → j < C → goesOn s x (i + (q * C + j)) ≡ true
+    goes-on : goesOn s (g .root) x (i + q * C) ≡ true → (j : ℕ) → j < C → goesOn s (g .root) x (i + (q * C + j)) ≡ true
     unfolding goesOn
     goes-on e j l =
         let m : x + (i + q * C) ≡ y = omega arith in
-        let w : located s (x + (i + q * C)) ≡ moved (located s x) (i + q * C) = same-is _ _ e in
+        let w : located s (g .root) (x + (i + q * C)) ≡ moved (located s (g .root) x) (i + q * C) = same-is _ _ e in
         let z : y % clusterSize s + j < clusterSize s = subst (λ (k : ℕ). y % k + j < k) (o .is-cluster) (omega (arith, aligned)) in
-        let v : located s (y + j) ≡ moved (located s y) j = located-moved s y j z in
+        let v : located s (g .root) (y + j) ≡ moved (located s (g .root) y) j = located-moved s (g .root) y j z in
         let n : x + (i + (q * C + j)) ≡ y + j = omega arith in
         let p : i + (q * C + j) ≡ i + q * C + j = omega arith in
         rw (n, v, ← m, w, moved-moved, p) (same-self _)
@@ -133,14 +133,14 @@ module _ (g : Geometry) (s : List ℕ) (o : Opened g s) (x : ℕ) (f : Found) (i
     end-in : (k : ℕ) → k ≡ entriesEnd (g .version) C (length s) (part s t C) (moved f i) from from (from + count) → (from ≤ k) × (k ≤ from + count)
     end-in k e = (rw e (end-low _ _ _ _ _ from (from + count) (omega arith)), rw e (end-high _ _ _ _ _ from (from + count) (omega arith)))
 
-    table-goes : (k r : ℕ) → k ≡ entriesEnd (g .version) C (length s) (part s t C) (moved f i) from from (from + count) → r ≡ min ((k - from) * C) left → Goes s x i left r
+    table-goes : (k r : ℕ) → k ≡ entriesEnd (g .version) C (length s) (part s t C) (moved f i) from from (from + count) → r ≡ min ((k - from) * C) left → Goes s (g .root) x i left r
     table-goes k r e m =
         record { most = omega arith; on = λ j l. on j (omega arith) (omega arith); ends = λ l. stop (omega arith) (omega arith) }
       where
         low : from ≤ k
         low = end-in k e .0
 
-        on : (j : ℕ) → j < left → j < (k - from) * C → goesOn s x (i + j) ≡ true
+        on : (j : ℕ) → j < left → j < (k - from) * C → goesOn s (g .root) x (i + j) ≡ true
         on j l n =
             let p : 0 < C = pow-pos (g .bits) in
             let q : ℕ = j / C in
@@ -150,7 +150,7 @@ module _ (g : Geometry) (s : List ℕ) (o : Opened g s) (x : ℕ) (f : Found) (i
             let w : from + q < entriesEnd (g .version) C (length s) (part s t C) (moved f i) from from (from + count) = rw (← e) (omega arith) in
             rw z at (goes-on q h (goes-at q h ∙ end-on _ _ _ _ _ from (from + count) (omega arith) (from + q) (omega arith) w) (j % C) (mod-lt j p))
 
-        stop : r ≡ (k - from) * C → (k - from) * C < left → goesOn s x (i + r) ≡ false
+        stop : r ≡ (k - from) * C → (k - from) * C < left → goesOn s (g .root) x (i + r) ≡ false
         stop q h =
             let u : k - from < count = lt-of-mul-lt-mul-right C (omega (arith, enough, h)) in
             let w : entriesEnd (g .version) C (length s) (part s t C) (moved f i) from from (from + count) < from + count = rw (← e) (omega (arith, low)) in
@@ -180,5 +180,5 @@ module _ (g : Geometry) (s : List ℕ) (o : Opened g s) (x : ℕ) (f : Found) (i
           let d = end-in count count-is k ended in
           (rw start-is (d .0), omega (arith, d .1, count-in count count-is, o .eight, o .is-cluster, o .is-per))
 
-      pub entries-go : (r : ℕ) → r ≡ min ((k - start) * c) left → Goes s x i left r
+      pub entries-go : (r : ℕ) → r ≡ min ((k - start) * c) left → Goes s (g .root) x i left r
       entries-go r m = table-goes count count-is k r ended (rw (start-is, z) at m)

@@ -10,7 +10,8 @@ use lib.Pow.{pow-pos}
 use Rattle.choice.proofs.Searches.{first-turn, first-none}
 use Rattle.choice.proofs.Runs.{first-miss}
 use Rattle.choice.proofs.Found.{first-false}
-use Rattle.qcow2_spec.specs.Header.{clusterSize, diskSize}
+use Rattle.qcow2_spec.specs.Header.{clusterSize}
+use Rattle.qcow2_spec.specs.Guest.{reach}
 use Rattle.qcow2_spec.specs.Runs.{goesOn, runLength}
 use Rattle.qcow2_spec.specs.Opened.{Opened}
 use Rattle.qcow2_spec.specs.declared.Geometry.{Geometry}
@@ -22,14 +23,14 @@ use Rattle.qcow2_runs.specs.Going.{Goes, Ahead, runFrom}
 
 -- ---- the first guest cluster
 module _ (g : Geometry) (s : List ℕ) (o : Opened g s) (x len first : ℕ) (e : first ≡ min (2 ^ g .bits - x % 2 ^ g .bits) len) where
-  pub cluster-goes : Goes s x 0 first first
+  pub cluster-goes : Goes s (g .root) x 0 first first
   unfolding goesOn
   cluster-goes = record { most = omega arith; on = λ j l. rw (zero-add j) (on j l); ends = λ l. absurd (omega arith) }
     where
-      on : (j : ℕ) → j < first → goesOn s x j ≡ true
+      on : (j : ℕ) → j < first → goesOn s (g .root) x j ≡ true
       on j l =
           let k : x % clusterSize s + j < clusterSize s = rw (← o .is-cluster) (omega arith) in
-          rw (located-moved s x j k) (same-self _)
+          rw (located-moved s (g .root) x j k) (same-self _)
 
 pub cluster-end : (g : Geometry) (x len first : ℕ) → first ≡ min (2 ^ g .bits - x % 2 ^ g .bits) len → first < len → (x + first) % 2 ^ g .bits ≡ 0
 cluster-end g x len first e h =
@@ -58,29 +59,29 @@ module _ (g : Geometry) (y n m : ℕ) (e : m ≡ min (rowLeft (2 ^ g .bits) (2 ^
   pub row-some : 0 < n → 0 < m
   row-some h = omega (arith, row-left-some (2 ^ g .bits) (2 ^ (g .bits - 3)) y (pow-pos (g .bits)) (pow-pos (g .bits - 3)))
 
-pub row-ahead : (g : Geometry) (s : List ℕ) (x i len m : ℕ) → m ≡ min (rowLeft (2 ^ g .bits) (2 ^ (g .bits - 3)) (x + i)) (len - i) → i < len → x + len ≤ diskSize s → (x + i) % 2 ^ g .bits ≡ 0 → Ahead g s x i m
+pub row-ahead : (g : Geometry) (s : List ℕ) (x i len m : ℕ) → m ≡ min (rowLeft (2 ^ g .bits) (2 ^ (g .bits - 3)) (x + i)) (len - i) → i < len → x + len ≤ reach s (g .root) → (x + i) % 2 ^ g .bits ≡ 0 → Ahead g s x i m
 row-ahead g s x i len m e h f a = record { some = row-some g (x + i) (len - i) m e (omega arith); fits = omega arith; start = a; row = omega arith }
 
 -- ---- where the run ends
-module _ (s : List ℕ) (x len : ℕ) where
+module _ (s : List ℕ) (root x len : ℕ) where
   abbrev p : ℕ → Bool
-  p i = not (goesOn s x i)
+  p i = not (goesOn s root x i)
 
-  pub run-next : (i left r : ℕ) → i + left ≤ len → Goes s x i left r → runFrom s x i (len - i) ≡ runFrom s x (i + r) (len - (i + r))
+  pub run-next : (i left r : ℕ) → i + left ≤ len → Goes s root x i left r → runFrom s root x i (len - i) ≡ runFrom s root x (i + r) (len - (i + r))
   unfolding runFrom
   run-next i left r h u = first-miss p i r len (omega (arith, u .most)) (omega (arith, first-false p i r (λ j a b. at j a b)))
     where
       at : (j : ℕ) → i ≤ j → j < i + r → p j ≡ false
       at j a b = let d : i + (j - i) ≡ j = omega arith in ap not (rw d at (u .on (j - i) (omega arith)))
 
-  pub run-first : (m r : ℕ) → m ≤ len → Goes s x 0 m r → runLength s x len ≡ runFrom s x r (len - r)
+  pub run-first : (m r : ℕ) → m ≤ len → Goes s root x 0 m r → runLength s root x len ≡ runFrom s root x r (len - r)
   unfolding runLength runFrom
   run-first m r h u = rw (sub-zero, zero-add) at (run-next 0 m r (omega arith) u)
 
-  pub run-stops : (i : ℕ) → i < len → goesOn s x i ≡ false → runFrom s x i (len - i) ≡ i
+  pub run-stops : (i : ℕ) → i < len → goesOn s root x i ≡ false → runFrom s root x i (len - i) ≡ i
   unfolding runFrom
   run-stops i h e = first-turn p i len h ∙ rw e
 
-  pub run-over : (i : ℕ) → len ≤ i → runFrom s x i (len - i) ≡ i
+  pub run-over : (i : ℕ) → len ≤ i → runFrom s root x i (len - i) ≡ i
   unfolding runFrom
   run-over i h = first-none p i len h

@@ -3,8 +3,7 @@ ghost use mathlib.Core.Path.{_≡_};
 ghost use Prim.Native.Nat.{_+_, _-_, _*_, _/_, _%_, _^_, _<_, _≤_};
 ghost use lib.ListN.{length};
 ghost use Rattle.endian.specs.Big.{splice};
-ghost use Rattle.qcow2_spec.specs.Header.{diskSize};
-ghost use Rattle.qcow2_spec.specs.Guest.{located};
+ghost use Rattle.qcow2_spec.specs.Guest.{reach, located};
 ghost use Rattle.qcow2_spec.specs.Runs.{runLength, runRow, runRows, listRuns, runsInto};
 ghost use Rattle.qcow2_spec.specs.Opened.{Opened};
 ghost use Rattle.qcow2_runs.specs.Going.{runFrom};
@@ -23,8 +22,8 @@ enum Row {
 
 // Where the run from x ends, of whose len bytes i0 are known and end with a guest cluster.
 fn next_rows(image: &[u8], g: Geometry, x: u64, f: Found, i0: u64, len: u64) -> u64
-    requires { ⌜ ((Opened g (now image)) × (f ≡ located (now image) x)) × (((i0 ≤ len) × (x + len ≤ diskSize (now image))) × (i0 < len → (x + i0) % 2 ^ (g .bits) ≡ 0)) ⌝ }
-    ensures { λ r. ⌜ r ≡ runFrom (now (image .entry)) x i0 (len - i0) ⌝ }
+    requires { ⌜ ((Opened g (now image)) × (f ≡ located (now image) (g .root) x)) × (((i0 ≤ len) × (x + len ≤ reach (now image) (g .root))) × (i0 < len → (x + i0) % 2 ^ (g .bits) ≡ 0)) ⌝ }
+    ensures { λ r. ⌜ r ≡ runFrom (now (image .entry)) (g .root) x i0 (len - i0) ⌝ }
 {
     let mut i = i0;
     while i < len {
@@ -40,8 +39,8 @@ fn next_rows(image: &[u8], g: Geometry, x: u64, f: Found, i0: u64, len: u64) -> 
 
 // How many of the len bytes from x on go on alike. Those of its guest cluster do.
 fn run_length(image: &[u8], g: Geometry, x: u64, f: Found, len: u64) -> u64
-    requires { ⌜ ((Opened g (now image)) × (f ≡ located (now image) x)) × (x + len ≤ diskSize (now image)) ⌝ }
-    ensures { λ r. ⌜ r ≡ runLength (now (image .entry)) x len ⌝ }
+    requires { ⌜ ((Opened g (now image)) × (f ≡ located (now image) (g .root) x)) × (x + len ≤ reach (now image) (g .root)) ⌝ }
+    ensures { λ r. ⌜ r ≡ runLength (now (image .entry)) (g .root) x len ⌝ }
 {
     let first = qcow2_guest::piece(x, len as usize, g.bits) as u64;
     next_rows(image, g, x, f, first, len)
@@ -59,8 +58,8 @@ fn put_row(rows: &mut [u64], at: usize, f: Found, r: u64)
 
 // Stores the run from x on and returns its length.
 fn next_run(image: &[u8], g: Geometry, x: u64, len: u64, rows: &mut [u64], at: usize) -> u64
-    requires { ⌜ (Opened g (now image)) × (((0 < len) × (x + len ≤ diskSize (now image))) × (at + 3 ≤ length (now rows))) ⌝ }
-    ensures { λ r. ⌜ (r ≡ runLength (now (image .entry)) x len) × (now (rows .exit) ≡ splice (now (rows .entry)) at (runRow (located (now (image .entry)) x) r)) ⌝ }
+    requires { ⌜ (Opened g (now image)) × (((0 < len) × (x + len ≤ reach (now image) (g .root))) × (at + 3 ≤ length (now rows))) ⌝ }
+    ensures { λ r. ⌜ (r ≡ runLength (now (image .entry)) (g .root) x len) × (now (rows .exit) ≡ splice (now (rows .entry)) at (runRow (located (now (image .entry)) (g .root) x) r)) ⌝ }
 {
     let w = rows::row_at(image, g, power::quotient(x, g.bits));
     let f = rows::found_in(image, g, w, x);
@@ -71,8 +70,8 @@ fn next_run(image: &[u8], g: Geometry, x: u64, len: u64, rows: &mut [u64], at: u
 
 // Stores the runs of the len bytes from x on, as many as there is room for, and returns how many.
 fn store_runs(image: &[u8], g: Geometry, x: u64, len: u64, rows: &mut [u64]) -> usize
-    requires { ⌜ (Opened g (now image)) × (x + len ≤ diskSize (now image)) ⌝ }
-    ensures { λ r. ⌜ (3 * r ≡ length (runRows (now (image .entry)) x len (length (now (rows .entry)) / 3))) × (now (rows .exit) ≡ splice (now (rows .entry)) 0 (runRows (now (image .entry)) x len (length (now (rows .entry)) / 3))) ⌝ }
+    requires { ⌜ (Opened g (now image)) × (x + len ≤ reach (now image) (g .root)) ⌝ }
+    ensures { λ r. ⌜ (3 * r ≡ length (runRows (now (image .entry)) (g .root) x len (length (now (rows .entry)) / 3))) × (now (rows .exit) ≡ splice (now (rows .entry)) 0 (runRows (now (image .entry)) (g .root) x len (length (now (rows .entry)) / 3))) ⌝ }
 {
     let room = rows.len() / 3;
     let mut done = 0;
@@ -90,7 +89,7 @@ fn store_runs(image: &[u8], g: Geometry, x: u64, len: u64, rows: &mut [u64]) -> 
 // Lists the runs of the len bytes from x on. Refused, the output is left alone.
 pub fn listed(image: &[u8], g: Geometry, x: u64, len: u64, rows: &mut [u64]) -> Listed
     requires { ⌜ Opened g (now image) ⌝ }
-    ensures { λ r. ⌜ (r ≡ listRuns (now (image .entry)) x len (length (now (rows .entry)) / 3)) × (now (rows .exit) ≡ runsInto (now (image .entry)) x len (now (rows .entry))) ⌝ }
+    ensures { λ r. ⌜ (r ≡ listRuns (now (image .entry)) (g .root) x len (length (now (rows .entry)) / 3)) × (now (rows .exit) ≡ runsInto (now (image .entry)) (g .root) x len (now (rows .entry))) ⌝ }
 {
     if power::past(g.size, x, len) {
         return Listed::Refused(11);

@@ -1,21 +1,21 @@
 -- A read is refused as its bytes are, a translation as the read of its byte is, and a read is accepted exactly where none of its bytes is
 -- refused. Assumes nothing.
 use Prim.Native.Nat.{ℕ, zero, suc, _+_, _-_, _*_, _/_, _%_, _≤_, _<_}
-use native.Mathlib.Nat.{le-div-iff-mul-le, div-lt-iff-lt-mul, div-mul-le-self, lt-div-mul-add, suc-ne-zero}
+use native.Mathlib.Nat.{le-div-iff-mul-le, div-lt-iff-lt-mul, div-mul-le-self, lt-div-mul-add, suc-ne-zero, zero-lt-suc}
 use native.Mathlib.Omega.{arith}
 use mathlib.Core.Path.{_≡_, refl, sym, ap, ap₂, _∙_, subst}
 use mathlib.Core.Logic.{_⊎_, inl, inr, _↔_, _≢_}
 use mathlib.Core.Bool.{Bool, true, false, not, _||_}
-use mathlib.Core.List.{List, _∷_}
+use mathlib.Core.List.{List, [], _∷_}
 use lib.Dec.{leb, ltb, eqb}
 use lib.ListN.{length}
-use borrow.Author.Tests.{ltb-true, ltb-false, eqb-true, lt-ltb, le-ltb, le-leb, lt-leb}
+use borrow.Author.Tests.{ltb-true, ltb-false, leb-false, eqb-true, eqb-false, lt-ltb, le-ltb, le-leb, lt-leb}
 use Rattle.choice.specs.Pick.{if_then_else_, unless, each}
-use Rattle.choice.proofs.Tests.{if-yes, if-no, if-zero, if-elim, false-or}
+use Rattle.choice.proofs.Tests.{if-yes, if-no, if-zero, if-elim, or-false, false-or}
 use Rattle.endian.specs.Big.{be64, part}
-use Rattle.qcow2_spec.specs.Header.{version, clusterSize, diskSize, perTable, judge}
+use Rattle.qcow2_spec.specs.Header.{version, clusterSize, diskSize, perTable, snapshots, roots, judge}
 use Rattle.qcow2_spec.specs.Entries.{place, goodL1, goodL2, compressed, zeroMark}
-use Rattle.qcow2_spec.specs.Guest.{l1Entry, entryWay, l2Way, way, entryGives, wayGives, wayNumber, waysNumber, located, translate, foundByte, guestByte, guestBytes, outside, touched, readNumber, readInto}
+use Rattle.qcow2_spec.specs.Guest.{l1Entry, entryWay, l2Way, way, entryGives, wayGives, wayNumber, waysNumber, located, translate, foundByte, guestByte, guestBytes, reach, outside, touched, readNumber, readInto}
 use Rattle.qcow2_spec.specs.Bytewise.{refusal, bytesNumber, bytewise, bytewiseInto, Bytewise}
 use Rattle.qcow2_spec.specs.declared.Found.{Found}
 use Rattle.qcow2_spec.specs.declared.Found.the-variants.{Host, Zeros, Absent, Refused}
@@ -87,27 +87,35 @@ module _ (s : List ℕ) (ok : judge s ≡ 0) where
   pos = c-pos s (facts s ok)
 
   -- the translation of a byte of the disk
-  pub translate-inside : (x : ℕ) → x < diskSize s → translate s x ≡ located s x
+  pub translate-inside : (x : ℕ) → x < diskSize s → translate s x ≡ located s 0 x
   unfolding translate
   translate-inside x l = rw ok (if-no (leb (diskSize s) x) _ _ (lt-leb _ _ l))
 
-  byte-number : (x : ℕ) → x < diskSize s → refusal (translate s x) ≡ wayNumber (way s (x / C))
+  byte-number : (t x : ℕ) → refusal (located s t x) ≡ wayNumber (way s t (x / C))
   unfolding located
-  byte-number x l = ap refusal (translate-inside x l) ∙ gives-number (way s (x / C)) (x % C)
+  byte-number t x = gives-number (way s t (x / C)) (x % C)
 
   -- the ways of a range are refused as its bytes are
-  ways-bytes : (len x : ℕ) → x + len ≤ diskSize s → waysNumber s (x / C) (touched C x len) ≡ bytesNumber s x len
+  ways-bytes : (t len x : ℕ) → waysNumber s t (x / C) (touched C x len) ≡ bytesNumber s t x len
   unfolding waysNumber bytesNumber
-  ways-bytes zero x h = rw (touched-none C pos x)
-  ways-bytes (suc zero) x h = rw (touched-one C pos x, byte-number x (omega arith))
-  ways-bytes (suc (suc l)) x h = rw (byte-number x (omega arith), ← (ways-bytes (suc l) (suc x) (omega arith))) (go (next-cluster C pos x))
+  ways-bytes t zero x = rw (touched-none C pos x)
+  ways-bytes t (suc zero) x = rw (touched-one C pos x, byte-number t x)
+  ways-bytes t (suc (suc l)) x = rw (byte-number t x, ← (ways-bytes t (suc l) (suc x))) (go (next-cluster C pos x))
     where
       go : (suc x / C ≡ x / C) ⊎ (suc x / C ≡ suc (x / C))
-          → waysNumber s (x / C) (touched C x (suc (suc l))) ≡ unless (wayNumber (way s (x / C))) (λ k. k) (waysNumber s (suc x / C) (touched C (suc x) (suc l)))
-      go (inl e) = rw (touched-same C pos x l e, e, touched-some C pos (suc x) l) (sym (unless-twice (wayNumber (way s (x / C))) _))
+          → waysNumber s t (x / C) (touched C x (suc (suc l))) ≡ unless (wayNumber (way s t (x / C))) (λ k. k) (waysNumber s t (suc x / C) (touched C (suc x) (suc l)))
+      go (inl e) = rw (touched-same C pos x l e, e, touched-some C pos (suc x) l) (sym (unless-twice (wayNumber (way s t (x / C))) _))
       go (inr e) = rw (touched-more C pos x l e, e)
 
 -- ---- the law
+or-assoc : (a b c : Bool) → (a || b || c) ≡ (a || (b || c))
+or-assoc true b c = refl
+or-assoc false b c = refl
+
+both : (a b : Bool) (n : ℕ) → (if a || b then 11 else n) ≡ (if a then 11 else if b then 11 else n)
+both true b n = refl
+both false b n = refl
+
 past : (size x len : ℕ) → (ltb size x || ltb (size - x) len) ≡ ltb size (x + len)
 past size x len = go (ltb size (x + len)) refl
   where
@@ -119,43 +127,30 @@ past size x len = go (ltb size (x + len)) refl
         first true d = refl
         first false d = lt-ltb (size - x) len (omega (arith, ltb-true size (x + len) e, ltb-false size x d))
 
-pub number-bytewise : (s : List ℕ) (x len : ℕ) → readNumber s x len ≡ bytewise s x len
+pub number-bytewise : (s : List ℕ) (t x len : ℕ) → readNumber s t x len ≡ bytewise s t x len
 unfolding readNumber bytewise outside
-number-bytewise s x len = go (judge s) refl
+number-bytewise s t x len = go (judge s) refl
   where
     go : (j : ℕ) → judge s ≡ j
-        → unless j (λ k. k) (if outside s x len then 11 else waysNumber s (x / clusterSize s) (touched (clusterSize s) x len))
-        ≡ unless j (λ k. k) (if ltb (diskSize s) (x + len) then 11 else bytesNumber s x len)
+        → unless j (λ k. k) (if outside s t x len then 11 else waysNumber s t (x / clusterSize s) (touched (clusterSize s) x len))
+        ≡ unless j (λ k. k) (if leb (roots s) t then 11 else if ltb (reach s t) (x + len) then 11 else bytesNumber s t x len)
     go (suc j) e = refl
     go zero e =
-        rw (past (diskSize s) x len) (inside (ltb (diskSize s) (x + len)) refl)
-      where
-        inside : (b : Bool) → ltb (diskSize s) (x + len) ≡ b
-            → (if b then 11 else waysNumber s (x / clusterSize s) (touched (clusterSize s) x len)) ≡ (if b then 11 else bytesNumber s x len)
-        inside true h = refl
-        inside false h = ways-bytes s e len x (ltb-false _ _ h)
+        rw (or-assoc (leb (roots s) t) (ltb (reach s t) x) (ltb (reach s t - x) len), past (reach s t) x len, ways-bytes s e t len x)
+        (both (leb (roots s) t) (ltb (reach s t) (x + len)) _)
 
 -- the bytes of an accepted read are those of the disk
-inside-disk : (s : List ℕ) (x len : ℕ) → readNumber s x len ≡ 0 → (judge s ≡ 0) × (x + len ≤ diskSize s)
+inside-disk : (s : List ℕ) (t x len : ℕ) → readNumber s t x len ≡ 0 → (judge s ≡ 0) × (t < roots s) × (x + len ≤ reach s t)
 unfolding readNumber outside
-inside-disk s x len e =
+inside-disk s t x len e =
     let p = unless-zero (judge s) _ e in
-    (p .0, ltb-false _ _ (if-zero (ltb (diskSize s) (x + len)) 10 _ (rw (past (diskSize s) x len) at (p .1)) .0))
+    let q = if-zero (leb (roots s) t || ltb (reach s t) x || ltb (reach s t - x) len) 10 _ (p .1) .0 in
+    let o = or-false (leb (roots s) t) _ (rw (or-assoc (leb (roots s) t) (ltb (reach s t) x) (ltb (reach s t - x) len), past (reach s t) x len) at q) in
+    (p .0, leb-false _ _ (o .0), ltb-false _ _ (o .1))
 
-each-same : (f g : ℕ → ℕ) (k x : ℕ) → ((y : ℕ) → x ≤ y → y < x + k → f y ≡ g y) → each f x k ≡ each g x k
-each-same f g zero x h = refl
-each-same f g (suc k) x h = ap₂ (λ (y : ℕ) (ys : List ℕ). y ∷ ys) (h x (omega arith) (omega arith)) (each-same f g k (suc x) (λ y a b. h y (omega arith) (omega arith)))
-
-into-bytewise : (s : List ℕ) (x : ℕ) (out : List ℕ) → readInto s x out ≡ bytewiseInto s x out
+into-bytewise : (s : List ℕ) (t x : ℕ) (out : List ℕ) → readInto s t x out ≡ bytewiseInto s t x out
 unfolding readInto bytewiseInto guestBytes guestByte
-into-bytewise s x out = rw (← (number-bytewise s x (length out))) (go (eqb (readNumber s x (length out)) 0) refl)
-  where
-    go : (b : Bool) → eqb (readNumber s x (length out)) 0 ≡ b
-        → (if b then each (guestByte s) x (length out) else out) ≡ (if b then each (λ y. foundByte s (translate s y)) x (length out) else out)
-    go false e = refl
-    go true e =
-        let p = inside-disk s x (length out) (eqb-true _ _ e) in
-        each-same _ _ (length out) x (λ y a b. ap (foundByte s) (sym (translate-inside s (p .0) y (omega (arith, b, p .1)))))
+into-bytewise s t x out = rw (number-bytewise s t x (length out)) refl
 
 -- ---- a translation, on the disk and past its end
 unless-none : (n : ℕ) → unless n (λ k. k) 0 ≡ n
@@ -170,19 +165,41 @@ pub translate-past : (s : List ℕ) (x : ℕ) → judge s ≡ 0 → diskSize s �
 unfolding translate
 translate-past s x e l = rw e (if-yes (leb (diskSize s) x) _ _ (le-leb _ _ l))
 
-translate-bytewise : (s : List ℕ) (x : ℕ) → refusal (translate s x) ≡ bytewise s x 1
-unfolding bytewise bytesNumber refusal
-translate-bytewise s x = go (judge s) refl
+-- there is always the active table
+active-there : (s : List ℕ) → leb (roots s) 0 ≡ false
+unfolding roots
+active-there s = lt-leb (roots s) 0 (zero-lt-suc (snapshots s))
+
+translate-bytewise : (s : List ℕ) (x : ℕ) → refusal (translate s x) ≡ bytewise s 0 x 1
+unfolding bytewise bytesNumber reach refusal
+translate-bytewise s x = rw (active-there s) (go (judge s) refl)
   where
-    go : (j : ℕ) → judge s ≡ j → refusal (translate s x) ≡ unless j (λ k. k) (if ltb (diskSize s) (x + 1) then 11 else unless (refusal (translate s x)) (λ k. k) 0)
+    go : (j : ℕ) → judge s ≡ j → refusal (translate s x) ≡ unless j (λ k. k) (if ltb (diskSize s) (x + 1) then 11 else unless (refusal (located s 0 x)) (λ k. k) 0)
     go (suc j) e = ap refusal (translate-refused s x j e)
     go zero e =
         if-elim (λ (n : ℕ). refusal (translate s x) ≡ n) (ltb (diskSize s) (x + 1)) _ _
         (λ h. ap refusal (translate-past s x e (omega (arith, ltb-true (diskSize s) (x + 1) h))))
-        (λ h. sym (unless-none (refusal (translate s x))))
+        (λ h. ap refusal (translate-inside s e x (omega (arith, ltb-false (diskSize s) (x + 1) h))) ∙ sym (unless-none (refusal (located s 0 x))))
+
+-- what is refused reads as zeros
+refused-zero : (s : List ℕ) (f : Found) → refusal f ≢ 0 → foundByte s f ≡ 0
+unfolding refusal foundByte
+refused-zero s (Host h) n = absurd (n refl)
+refused-zero s Zeros n = refl
+refused-zero s Absent n = refl
+refused-zero s (Refused k) n = refl
+
+translate-read : (s : List ℕ) (x : ℕ) → refusal (translate s x) ≡ readNumber s 0 x 1 → readInto s 0 x (0 ∷ []) ≡ foundByte s (translate s x) ∷ []
+unfolding readInto guestBytes guestByte reach
+translate-read s x r =
+    if-elim (λ (l : List ℕ). l ≡ foundByte s (translate s x) ∷ []) (eqb (readNumber s 0 x 1) 0) _ _
+    (λ e. let p = inside-disk s 0 x 1 (eqb-true _ _ e) in ap (λ (f : Found). foundByte s f ∷ []) (sym (translate-inside s (p .0) x (omega (arith, p .2)))))
+    (λ e. ap (λ (y : ℕ). y ∷ []) (sym (refused-zero s (translate s x) (λ z. eqb-false _ _ e (sym r ∙ z)))))
 
 pub read-bytewise : Bytewise
-read-bytewise s x = (number-bytewise s x, into-bytewise s x, translate-bytewise s x ∙ sym (number-bytewise s x 1))
+read-bytewise s x =
+    let r : refusal (translate s x) ≡ readNumber s 0 x 1 = translate-bytewise s x ∙ sym (number-bytewise s 0 x 1) in
+    ((λ t len. number-bytewise s t x len), (λ t out. into-bytewise s t x out), r, translate-read s x r)
 
 -- ---- where a read is accepted
 -- a number other than 0
@@ -197,16 +214,16 @@ WayNumbered (Bad k) = k ≢ 0
 WayNumbered NoTable = Unit {0}
 WayNumbered (Slot a e) = Unit {0}
 
-way-numbered : (s : List ℕ) (g : ℕ) → WayNumbered (way s g)
+way-numbered : (s : List ℕ) (t g : ℕ) → WayNumbered (way s t g)
 unfolding WayNumbered way l2Way entryWay
-way-numbered s g =
-    if-elim WayNumbered (not (goodL1 (clusterSize s) (length s) (l1Entry s g))) _ _ (λ b. suc-ne-zero 11)
-    (λ b. if-elim WayNumbered (eqb (place (l1Entry s g)) 0) _ _ (λ z. tt)
-    (λ z. if-elim WayNumbered (compressed (entry s g)) _ _ (λ c. suc-ne-zero 12)
-    (λ c. if-elim WayNumbered (not (goodL2 (version s) (clusterSize s) (length s) (entry s g))) _ _ (λ d. suc-ne-zero 11) (λ d. tt))))
+way-numbered s t g =
+    if-elim WayNumbered (not (goodL1 (clusterSize s) (length s) (l1Entry s t g))) _ _ (λ b. suc-ne-zero 11)
+    (λ b. if-elim WayNumbered (eqb (place (l1Entry s t g)) 0) _ _ (λ z. tt)
+    (λ z. if-elim WayNumbered (compressed (entry s t g)) _ _ (λ c. suc-ne-zero 12)
+    (λ c. if-elim WayNumbered (not (goodL2 (version s) (clusterSize s) (length s) (entry s t g))) _ _ (λ d. suc-ne-zero 11) (λ d. tt))))
   where
-    entry : List ℕ → ℕ → ℕ
-    entry s g = be64 (part s (place (l1Entry s g)) (clusterSize s)) (8 * (g % perTable s))
+    entry : List ℕ → ℕ → ℕ → ℕ
+    entry s t g = be64 (part s (place (l1Entry s t g)) (clusterSize s)) (8 * (g % perTable s))
 
 gives-numbered : (w : Way) (o : ℕ) → WayNumbered w → Numbered (wayGives w o)
 unfolding Numbered WayNumbered wayGives entryGives
@@ -214,14 +231,10 @@ gives-numbered (Bad k) o h = h
 gives-numbered NoTable o h = tt
 gives-numbered (Slot a e) o h = if-elim Numbered (zeroMark e) _ _ (λ z. tt) (λ z. if-elim Numbered (eqb (place e) 0) _ _ (λ p. tt) (λ p. tt))
 
--- a refused translation has a number
-pub numbered : (s : List ℕ) (x : ℕ) → Numbered (translate s x)
-unfolding translate Numbered located
-numbered s x = go (judge s)
-  where
-    go : (j : ℕ) → Numbered (unless j Refused (if leb (diskSize s) x then Refused 11 else wayGives (way s (x / clusterSize s)) (x % clusterSize s)))
-    go (suc j) = suc-ne-zero j
-    go zero = if-elim Numbered (leb (diskSize s) x) _ _ (λ b. suc-ne-zero 10) (λ b. gives-numbered (way s (x / clusterSize s)) (x % clusterSize s) (way-numbered s (x / clusterSize s)))
+-- what is refused has a number
+pub numbered : (s : List ℕ) (t x : ℕ) → Numbered (located s t x)
+unfolding located
+numbered s t x = gives-numbered (way s t (x / clusterSize s)) (x % clusterSize s) (way-numbered s t (x / clusterSize s))
 
 -- it is no refusal
 abbrev pub Taken : Found → Type 0
@@ -240,38 +253,38 @@ taken f n = (there, back f)
     back Absent t = refl
     back (Refused k) t = absurd (t k refl)
 
-bytes-zero : (s : List ℕ) (len x : ℕ) → bytesNumber s x len ≡ 0 → (y : ℕ) → x ≤ y → y < x + len → refusal (translate s y) ≡ 0
+bytes-zero : (s : List ℕ) (t len x : ℕ) → bytesNumber s t x len ≡ 0 → (y : ℕ) → x ≤ y → y < x + len → refusal (located s t y) ≡ 0
 unfolding bytesNumber
-bytes-zero s zero x e y a b = absurd (omega arith)
-bytes-zero s (suc l) x e y a b =
-    let p = unless-zero (refusal (translate s x)) (bytesNumber s (suc x) l) e in
-    go (ltb x y) refl (p .0) (λ q. bytes-zero s l (suc x) (p .1) y q (omega arith))
+bytes-zero s t zero x e y a b = absurd (omega arith)
+bytes-zero s t (suc l) x e y a b =
+    let p = unless-zero (refusal (located s t x)) (bytesNumber s t (suc x) l) e in
+    go (ltb x y) refl (p .0) (λ q. bytes-zero s t l (suc x) (p .1) y q (omega arith))
   where
-    go : (t : Bool) → ltb x y ≡ t → refusal (translate s x) ≡ 0 → (x < y → refusal (translate s y) ≡ 0) → refusal (translate s y) ≡ 0
+    go : (b : Bool) → ltb x y ≡ b → refusal (located s t x) ≡ 0 → (x < y → refusal (located s t y) ≡ 0) → refusal (located s t y) ≡ 0
     go true q first later = later (ltb-true x y q)
     go false q first later = let z : y ≡ x = omega (arith, ltb-false x y q) in rw z first
 
-zero-bytes : (s : List ℕ) (len x : ℕ) → ((y : ℕ) → x ≤ y → y < x + len → refusal (translate s y) ≡ 0) → bytesNumber s x len ≡ 0
+zero-bytes : (s : List ℕ) (t len x : ℕ) → ((y : ℕ) → x ≤ y → y < x + len → refusal (located s t y) ≡ 0) → bytesNumber s t x len ≡ 0
 unfolding bytesNumber
-zero-bytes s zero x h = refl
-zero-bytes s (suc l) x h = rw (h x (omega arith) (omega arith)) (zero-bytes s l (suc x) (λ y a b. h y (omega arith) (omega arith)))
+zero-bytes s t zero x h = refl
+zero-bytes s t (suc l) x h = rw (h x (omega arith) (omega arith)) (zero-bytes s t l (suc x) (λ y a b. h y (omega arith) (omega arith)))
 
-bytewise-inside : (s : List ℕ) (x len : ℕ) → judge s ≡ 0 → x + len ≤ diskSize s → bytewise s x len ≡ bytesNumber s x len
+bytewise-inside : (s : List ℕ) (t x len : ℕ) → judge s ≡ 0 → t < roots s → x + len ≤ reach s t → bytewise s t x len ≡ bytesNumber s t x len
 unfolding bytewise
-bytewise-inside s x len ok l = rw ok (if-no (ltb (diskSize s) (x + len)) 11 _ (le-ltb _ _ l))
+bytewise-inside s t x len ok h l = rw ok (if-no (leb (roots s) t) 11 _ (lt-leb _ _ h) ∙ if-no (ltb (reach s t) (x + len)) 11 _ (le-ltb _ _ l))
 
--- a read is accepted exactly where the image is, the range lies on the disk, and no byte's translation is refused
-pub read-accepted : (s : List ℕ) (x len : ℕ)
-    → (readNumber s x len ≡ 0) ↔ ((judge s ≡ 0) × (x + len ≤ diskSize s) × ((y : ℕ) → x ≤ y → y < x + len → Taken (translate s y)))
-read-accepted s x len = (there, back)
+-- a read is accepted exactly where the image is, there is such a table, the range lies on its disk, and no byte of it is refused
+pub read-accepted : (s : List ℕ) (t x len : ℕ)
+    → (readNumber s t x len ≡ 0) ↔ ((judge s ≡ 0) × (t < roots s) × (x + len ≤ reach s t) × ((y : ℕ) → x ≤ y → y < x + len → Taken (located s t y)))
+read-accepted s t x len = (there, back)
   where
-    there : readNumber s x len ≡ 0 → (judge s ≡ 0) × (x + len ≤ diskSize s) × ((y : ℕ) → x ≤ y → y < x + len → Taken (translate s y))
+    there : readNumber s t x len ≡ 0 → (judge s ≡ 0) × (t < roots s) × (x + len ≤ reach s t) × ((y : ℕ) → x ≤ y → y < x + len → Taken (located s t y))
     there e =
-        let p = inside-disk s x len e in
-        let z : bytesNumber s x len ≡ 0 = sym (bytewise-inside s x len (p .0) (p .1)) ∙ sym (number-bytewise s x len) ∙ e in
-        (p .0, p .1, λ y a b. taken (translate s y) (numbered s y) .0 (bytes-zero s len x z y a b))
+        let p = inside-disk s t x len e in
+        let z : bytesNumber s t x len ≡ 0 = sym (bytewise-inside s t x len (p .0) (p .1) (p .2)) ∙ sym (number-bytewise s t x len) ∙ e in
+        (p .0, p .1, p .2, λ y a b. taken (located s t y) (numbered s t y) .0 (bytes-zero s t len x z y a b))
 
-    back : (judge s ≡ 0) × (x + len ≤ diskSize s) × ((y : ℕ) → x ≤ y → y < x + len → Taken (translate s y)) → readNumber s x len ≡ 0
+    back : (judge s ≡ 0) × (t < roots s) × (x + len ≤ reach s t) × ((y : ℕ) → x ≤ y → y < x + len → Taken (located s t y)) → readNumber s t x len ≡ 0
     back p =
-        number-bytewise s x len ∙ bytewise-inside s x len (p .0) (p .1)
-        ∙ zero-bytes s len x (λ y a b. taken (translate s y) (numbered s y) .1 (p .2 y a b))
+        number-bytewise s t x len ∙ bytewise-inside s t x len (p .0) (p .1) (p .2)
+        ∙ zero-bytes s t len x (λ y a b. taken (located s t y) (numbered s t y) .1 (p .3 y a b))

@@ -29,11 +29,11 @@ seven e a b =
 
 module _ (C n : ℕ) where
   -- the place and bit 63 of a good entry
-  named : (e u : ℕ) → u ≡ e / 2 ^ 63 * 2 ^ 63 + place e → goodPlace C n e ≡ true → Unmarked C n u
+  named : (e u : ℕ) → e < 2 ^ 64 → u ≡ e / 2 ^ 63 * 2 ^ 63 + place e → goodPlace C n e ≡ true → Unmarked C n u
   unfolding goodPlace
-  named e u q h = go (or-true _ _ h)
+  named e u l q h = go (or-true _ _ h)
     where
-      go : ((eqb (place e) 0 && eqb (e / 2 ^ 63) 0) ≡ true) ⊎ ((not (eqb (place e) 0) && eqb (place e % C) 0 && leb (place e + C) n && eqb (e / 2 ^ 63) 1) ≡ true) → Unmarked C n u
+      go : ((eqb (place e) 0 && eqb (e / 2 ^ 63) 0) ≡ true) ⊎ ((not (eqb (place e) 0) && eqb (place e % C) 0 && leb (place e + C) n) ≡ true) → Unmarked C n u
       go (inl a) =
           let b = and-true (eqb (place e) 0) _ a in
           inl (omega (arith, q, eqb-true (place e) 0 (b .0), eqb-true (e / 2 ^ 63) 0 (b .1)))
@@ -41,12 +41,13 @@ module _ (C n : ℕ) where
           let t1 = not (eqb (place e) 0) in
           let t2 = eqb (place e % C) 0 in
           let t3 = leb (place e + C) n in
-          let b = and-true (t1 && t2 && t3) (eqb (e / 2 ^ 63) 1) a in
-          let c = and-true (t1 && t2) t3 (b .0) in
+          let c = and-true (t1 && t2) t3 a in
           let d = and-true t1 t2 (c .0) in
           inr (record {
             at = place e;
-            is = omega (arith, q, eqb-true (e / 2 ^ 63) 1 (b .1));
+            top = e / 2 ^ 63;
+            bit = omega (arith, l);
+            is = q;
             some = omega (arith, eqb-false (place e) 0 (not-true _ (d .0)));
             whole = eqb-true _ _ (d .1);
             inside = leb-true _ _ (c .1);
@@ -59,7 +60,7 @@ module _ (C n : ℕ) where
       let t2 = eqb (e / 2 ^ 56 % 128) 0 in
       let a = and-true (t1 && t2) _ h in
       let b = and-true t1 t2 (a .0) in
-      named e e (omega (arith, pieces e l (eqb-true (e / 2 ^ 56 % 128) 0 (b .1)), eqb-true (e % 512) 0 (b .0))) (a .1)
+      named e e l (omega (arith, pieces e l (eqb-true (e / 2 ^ 56 % 128) 0 (b .1)), eqb-true (e % 512) 0 (b .0))) (a .1)
 
   l2-is : (v e : ℕ) → e < 2 ^ 64 → goodL2 v C n e ≡ true → MaybeMarked v C n e
   unfolding goodL2 compressed zeroMark
@@ -83,18 +84,18 @@ module _ (C n : ℕ) where
       mark t p low g = go (eqb (e % 2) 1) refl
         where
           go : (b : Bool) → eqb (e % 2) 1 ≡ b → MaybeMarked v C n e
-          go false z = inl (named e e (omega (arith, p, low, even e (eqb-false (e % 2) 1 z))) g)
-          go true z = inr (three t, (e - 1, (omega (arith, eqb-true (e % 2) 1 z), named e (e - 1) (omega (arith, p, low, eqb-true (e % 2) 1 z)) g)))
+          go false z = inl (named e e l (omega (arith, p, low, even e (eqb-false (e % 2) 1 z))) g)
+          go true z = inr (three t, (e - 1, (omega (arith, eqb-true (e % 2) 1 z), named e (e - 1) l (omega (arith, p, low, eqb-true (e % 2) 1 z)) g)))
             where
               three : (not (eqb (e % 2) 1) ≡ true) ⊎ (eqb v 3 ≡ true) → v ≡ 3
               three (inl x) = absurd (true-not-false z (not-true _ x))
               three (inr x) = eqb-true v 3 x
 
 -- ---- and the numbers that are good entries
--- bit 63, a place p and a mark m
-module _ (C n k p m : ℕ) (c512 : C ≡ 512 * k) (short : n ≤ mostLength) (some : 0 < p) (whole : p % C ≡ 0) (inside : p + C ≤ n) (low : m ≤ 1) where
+-- bit 63 or not, a place p and a mark m
+module _ (C n k b p m : ℕ) (c512 : C ≡ 512 * k) (short : n ≤ mostLength) (some : 0 < p) (whole : p % C ≡ 0) (inside : p + C ≤ n) (low : m ≤ 1) (bit : b ≤ 1) where
   abbrev e : ℕ
-  e = 2 ^ 63 + p + m
+  e = b * 2 ^ 63 + p + m
 
   sectors : p ≡ 512 * (p / C * k)
   sectors = let q : p ≡ p / C * C = omega (arith, div-add-mod' p C, whole) in q ∙ ap (λ (x : ℕ). p / C * x) c512 ∙ omega arith
@@ -102,24 +103,24 @@ module _ (C n k p m : ℕ) (c512 : C ≡ 512 * k) (short : n ≤ mostLength) (so
   is-place : place e ≡ p
   unfolding place
   is-place =
-      let a : e / 512 ≡ p / C * k + 2 ^ 54 = omega (arith, sectors, low) in
+      let a : e / 512 ≡ p / C * k + b * 2 ^ 54 = omega (arith, sectors, low) in
       rw a (omega (arith, sectors, inside, short))
-
-  is-top : e / 2 ^ 63 ≡ 1
-  is-top = omega (arith, inside, short, low)
 
   is-low : e % 512 ≡ m
   is-low = omega (arith, sectors, low)
 
-  is-high : e / 2 ^ 56 ≡ 128
-  is-high = omega (arith, inside, short, low)
+  is-high : e / 2 ^ 56 % 128 ≡ 0
+  is-high = omega (arith, inside, short, low, bit)
 
-  is-62 : e / 2 ^ 62 ≡ 2
-  is-62 = omega (arith, inside, short, low)
+  is-six : e / 2 ^ 56 % 64 ≡ 0
+  is-six = omega (arith, is-high)
+
+  is-62 : e / 2 ^ 62 % 2 ≡ 0
+  is-62 = omega (arith, inside, short, low, bit)
 
   is-good : goodPlace C n e ≡ true
   unfolding goodPlace
-  is-good = simp (is-place, ne-eqb p 0 (λ z. omega (arith, some, z)), eq-eqb _ _ whole, le-leb _ _ inside, eq-eqb _ _ is-top)
+  is-good = simp (is-place, ne-eqb p 0 (λ z. omega (arith, some, z)), eq-eqb _ _ whole, le-leb _ _ inside)
 
   is-l1 : m ≡ 0 → goodL1 C n e ≡ true
   unfolding goodL1
@@ -127,13 +128,13 @@ module _ (C n k p m : ℕ) (c512 : C ≡ 512 * k) (short : n ≤ mostLength) (so
 
   is-l2 : (v : ℕ) → (m ≡ 0) ⊎ (v ≡ 3) → goodL2 v C n e ≡ true
   unfolding goodL2 compressed zeroMark
-  is-l2 v h = simp (is-62, is-low, half, is-high, mark h, is-good)
+  is-l2 v h = simp (is-62, is-low, half, is-six, mark h, is-good)
     where
       half : m / 2 ≡ 0
       half = omega (arith, low)
 
       mark : (m ≡ 0) ⊎ (v ≡ 3) → (not (eqb (e % 2) 1) || eqb v 3) ≡ true
-      mark (inl z) = rw (ne-eqb (e % 2) 1 (λ q. omega (arith, z, q, sectors)))
+      mark (inl z) = rw (ne-eqb (e % 2) 1 (λ q. omega (arith, z, q, sectors, bit)))
       mark (inr z) = rw (eq-eqb v 3 z) (or-right (not (eqb (e % 2) 1)))
         where
           or-right : (b : Bool) → (b || true) ≡ true
@@ -158,15 +159,15 @@ good-entries v C n k e c512 pos short l = ((l1-is C n e l, l1-good), (l2-is C n 
   where
     l1-good : Unmarked C n e → goodL1 C n e ≡ true
     l1-good (inl z) = rw z (zero-l1 C n)
-    l1-good (inr w) = subst (λ (x : ℕ). goodL1 C n x ≡ true) (omega (arith, w .is)) (is-l1 C n k (w .at) 0 c512 short (w .some) (w .whole) (w .inside) (omega arith) refl)
+    l1-good (inr w) = subst (λ (x : ℕ). goodL1 C n x ≡ true) (omega (arith, w .is)) (is-l1 C n k (w .top) (w .at) 0 c512 short (w .some) (w .whole) (w .inside) (omega arith) (w .bit) refl)
 
     plain : (u : ℕ) → Unmarked C n u → goodL2 v C n u ≡ true
     plain u (inl z) = rw z (zero-l2 v C n)
-    plain u (inr w) = subst (λ (x : ℕ). goodL2 v C n x ≡ true) (omega (arith, w .is)) (is-l2 C n k (w .at) 0 c512 short (w .some) (w .whole) (w .inside) (omega arith) v (inl refl))
+    plain u (inr w) = subst (λ (x : ℕ). goodL2 v C n x ≡ true) (omega (arith, w .is)) (is-l2 C n k (w .top) (w .at) 0 c512 short (w .some) (w .whole) (w .inside) (omega arith) (w .bit) v (inl refl))
 
     marked : (u : ℕ) → v ≡ 3 → Unmarked C n u → goodL2 v C n (u + 1) ≡ true
     marked u t (inl z) = rw (z, t) (mark-l2 C n)
-    marked u t (inr w) = subst (λ (x : ℕ). goodL2 v C n x ≡ true) (omega (arith, w .is)) (is-l2 C n k (w .at) 1 c512 short (w .some) (w .whole) (w .inside) (omega arith) v (inr t))
+    marked u t (inr w) = subst (λ (x : ℕ). goodL2 v C n x ≡ true) (omega (arith, w .is)) (is-l2 C n k (w .top) (w .at) 1 c512 short (w .some) (w .whole) (w .inside) (omega arith) (w .bit) v (inr t))
 
     l2-good : MaybeMarked v C n e → goodL2 v C n e ≡ true
     l2-good (inl w) = plain e w

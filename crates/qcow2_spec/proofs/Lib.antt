@@ -16,3 +16,10 @@ pub mod Series
 pub mod Difference
 pub mod Room
 pub mod Runs
+pub mod Single
+pub mod Reached
+pub mod Marks
+pub mod Else
+pub mod Places
+pub mod Visits
+pub mod Walked

@@ -46,11 +46,11 @@ gives-moved (Slot a e) o i = go (zeroMark e) (eqb (place e) 0)
     go false false = ap Host (omega arith)
 
 -- the bytes of a guest cluster lie side by side
-pub located-moved : (s : List ℕ) → judge s ≡ 0 → (x i : ℕ) → x % clusterSize s + i < clusterSize s → located s (x + i) ≡ moved (located s x) i
+pub located-moved : (s : List ℕ) → judge s ≡ 0 → (t x i : ℕ) → x % clusterSize s + i < clusterSize s → located s t (x + i) ≡ moved (located s t x) i
 unfolding located
-located-moved s ok x i near =
+located-moved s ok t x i near =
     let pos = c-pos s (facts s ok) in
-    rw (same-cluster (clusterSize s) pos x i near, next-byte (clusterSize s) pos x i near) (gives-moved (way s (x / clusterSize s)) (x % clusterSize s) i)
+    rw (same-cluster (clusterSize s) pos x i near, next-byte (clusterSize s) pos x i near) (gives-moved (way s t (x / clusterSize s)) (x % clusterSize s) i)
 
 -- ---- a translation that gives a host offset
 hosted : (s : List ℕ) (x h : ℕ) → translate s x ≡ Host h → (judge s ≡ 0) × (x < diskSize s)
@@ -73,8 +73,8 @@ found : (s : List ℕ) (x h i m : ℕ) → translate s x ≡ Host h → i < m �
 unfolding foundByte
 found s x h i m e l a b =
     let q = hosted s x h e in
-    let here : located s x ≡ Host h = sym (translate-inside s (q .0) x (q .1)) ∙ e in
-    let there : translate s (x + i) ≡ Host (h + i) = translate-inside s (q .0) (x + i) (omega (arith, l, b)) ∙ located-moved s (q .0) x i (omega (arith, l, a)) ∙ ap (λ (f : Found). moved f i) here in
+    let here : located s 0 x ≡ Host h = sym (translate-inside s (q .0) x (q .1)) ∙ e in
+    let there : translate s (x + i) ≡ Host (h + i) = translate-inside s (q .0) (x + i) (omega (arith, l, b)) ∙ located-moved s (q .0) 0 x i (omega (arith, l, a)) ∙ ap (λ (f : Found). moved f i) here in
     ap (foundByte s) there ∙ sym (getD-take m (drop h s) i 0 l ∙ getD-drop h s i 0)
 
 -- ---- the law

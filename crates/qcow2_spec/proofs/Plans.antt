@@ -12,7 +12,7 @@ use lib.ListN.{length, getD}
 use lib.Seq.{sets}
 use borrow.Author.Tests.{ltb-true, ltb-false, leb-true, leb-false, eqb-true, eqb-false, le-leb, lt-ltb}
 use Rattle.cuts.proofs.Cell.{mem, small-enc}
-use Rattle.cuts.proofs.Meta.{cnt, l2, tab, dat, refsOf, Sound, dat-none, keep-refs}
+use Rattle.cuts.proofs.Meta.{cnt, Has, l2, tab, dat, refsOf, Sound, dat-none, keep-refs}
 use Rattle.cuts.proofs.Step.{gread, gread-none, split-index, dat-in, free-not-0, Quiet}
 use Rattle.cuts.proofs.Run.{Store, Run, fill}
 use Rattle.cuts.proofs.Call.{Ok, SameGuest, Zeroed, MidZ, EndZ, discard-run, unmark-run, countStore}
@@ -22,34 +22,34 @@ use Rattle.cuts.proofs.Idle.{idle-store}
 use Rattle.choice.specs.Pick.{if_then_else_, first}
 use Rattle.endian.specs.Big.{bytes64}
 use Rattle.endian.proofs.Laws.{length-bytes64}
-use Rattle.qcow2_spec.specs.Header.{autoclearAt, autoclear, clusterSize, clusters, diskSize, l1Size, perTable, judge}
+use Rattle.qcow2_spec.specs.Header.{mostL1, autoclearAt, autoclear, clusterSize, clusters, diskSize, perTable, roots, rootSize, judge}
 use Rattle.qcow2_spec.specs.Entries.{place, zeroMark}
 use Rattle.qcow2_spec.specs.Counts.{countOf, freeAt, freeFrom}
 use Rattle.qcow2_spec.specs.declared.Way.{Way}
 use Rattle.qcow2_spec.specs.declared.Way.the-variants.{Bad as bad, NoTable as noTable, Slot as slot}
-use Rattle.qcow2_spec.specs.Guest.{way, outside}
+use Rattle.qcow2_spec.specs.Guest.{reach, outside}
 use Rattle.units.specs.Plan.{Plan, refused, units}
 use Rattle.units.specs.Units.{UnitStore, entry, apply as applyU, applyAll, fill as fillU, cluster}
 use Rattle.qcow2_spec.specs.Entries.{newEntry}
 use Rattle.qcow2_spec.specs.Counts.{setCount}
-use Rattle.qcow2_spec.specs.Store.{clearUnits, clearing, judged, allot, writeNew, writeTable, writeSlot, writeWay, writePlan, discardSlot, discardWay, discardPlan}
+use Rattle.qcow2_spec.specs.Store.{ownWay, clearUnits, clearing, judged, allot, writeNew, writeTable, writeSlot, writeWay, writePlan, discardSlot, discardWay, discardPlan}
 use Rattle.qcow2_spec.specs.References.{figuresOf}
 use Rattle.qcow2_spec.specs.Check.{verdict, repairUnits, verdictPlan, repairPlan}
 use Rattle.units.specs.declared.Outcome.{Outcome}
 use Rattle.units.specs.declared.Outcome.the-variants.{Finished, Stopped, Refused}
 use Rattle.qcow2_spec.specs.declared.Verdict.{Verdict}
-use Rattle.qcow2_spec.specs.declared.Verdict.the-variants.{Sound as IsSound, Leaks, BadL1, BadL2, Shared, Short, Refused as NotChecked}
+use Rattle.qcow2_spec.specs.declared.Verdict.the-variants.{Sound as IsSound, Leaks, BadL1, BadL2, Shared, Short, MarkL1, MarkL2, Refused as NotChecked}
 use Rattle.units.specs.Plan.{storesCount}
 use Rattle.qcow2_spec.specs.Disk.{Request, write, discard, repair, planOf, finished, SameDisk, Mixed, Fed}
 use Rattle.qcow2_spec.specs.Rough.{chosen, roughly}
 use Rattle.qcow2_spec.specs.Series.{Bytes, BytesOf}
 use Rattle.choice.proofs.Tests.{if-yes, if-no, if-elim, and-true, or-false, two-ways}
-use Rattle.qcow2_spec.proofs.Facts.{Facts, c-pos, c-big}
+use Rattle.qcow2_spec.proofs.Facts.{Facts, c-pos, c-big, root-few, root-count}
 use Rattle.qcow2_spec.proofs.Numbers.{enc8}
-use Rattle.qcow2_spec.proofs.Geo.{geo, code, geo-ok}
-use Rattle.qcow2_spec.proofs.Kept.{cnt-own}
+use Rattle.qcow2_spec.proofs.Geo.{nr, geo, code, geo-ok}
+use Rattle.qcow2_spec.proofs.Kept.{has, cnt-own}
 use Rattle.qcow2_spec.proofs.Verdicts.{refs-own, sound-exact}
-use Rattle.qcow2_spec.proofs.Ways.{rd, Slot, WayIs, way-is, dat-own, dat-place, dat-zero, dat-some-own, in-l1, inside}
+use Rattle.qcow2_spec.proofs.Ways.{rd, Slot, Own, OwnIs, own-way, dat-own, dat-place, dat-zero, dat-some-own, reach-in, in-root, inside}
 use Rattle.qcow2_spec.proofs.Rough.{roughly-nil, roughly-all}
 use Rattle.qcow2_spec.proofs.Units.{Twin, Like, none, also, like-append, like-run, like-cut, like-aside, like-fill, fill-quiet, cluster-around, count-aside, link-aside, entry-aside, count-like, entry-like, link-like, repair-like}
 
@@ -127,7 +127,7 @@ module _ (s : List ℕ) (f : Facts s) where
   m = mem (clusterSize s) s
 
   abbrev pub seen : List ℕ → ℕ → ℕ
-  seen t = rd (geo s) (code s) t
+  seen t = rd (geo s) (code s) t 0
 
   abbrev pub Kept : List ℕ → Type 0
   Kept t = Ok (geo s) (code s) m t
@@ -138,21 +138,56 @@ module _ (s : List ℕ) (f : Facts s) where
   ep : 0 < perTable s
   ep = geo-ok s f .epos
 
-  -- ---- what the machinery says of the reads, for the plain disk
+  -- the numbers of the guest's L1 entries
+  reach-0 : reach s 0 ≡ diskSize s
+  unfolding reach
+  reach-0 = refl
+
+  in-l1 : (y : ℕ) → y < diskSize s → y / clusterSize s / perTable s < rootSize s 0
+  in-l1 y l = in-root s f 0 y (rw reach-0 l)
+
+  first-root : 0 < roots s
+  first-root = omega (arith, root-count s f)
+
+  nr-l1 : (r : ℕ) → r < rootSize s 0 → nr 0 r < roots s * mostL1
+  nr-l1 r l = omega (arith, root-few s f 0 first-root, root-count s f)
+
+  split-nr : (a b : ℕ) → a ≢ b → (nr 0 (a / perTable s) ≢ nr 0 (b / perTable s)) ⊎ (a % perTable s ≢ b % perTable s)
+  split-nr a b d = go (split-index (perTable s) a b d)
+    where
+      go : (a / perTable s ≢ b / perTable s) ⊎ (a % perTable s ≢ b % perTable s) → (nr 0 (a / perTable s) ≢ nr 0 (b / perTable s)) ⊎ (a % perTable s ≢ b % perTable s)
+      go (inl n) = inl (λ e. n (omega arith))
+      go (inr n) = inr n
+
+  -- ---- what the machinery says of the reads, for the snapshots
+  abbrev pub Shots : List ℕ → Type 0
+  Shots t = (a b x : ℕ) → a < roots s * mostL1 → mostL1 ≤ a → b < perTable s → x < clusterSize s → gread (geo s) (code s) (mem (clusterSize s) t) a b x ≡ gread (geo s) (code s) m a b x
+
+  same-shots : (t : List ℕ) → SameGuest (geo s) (code s) s t → Shots t
+  unfolding SameGuest
+  same-shots t h a b x l n p q = h a b x l p q
+
+  zeroed-shots : (t : List ℕ) (i j : ℕ) → i < mostL1 → Zeroed (geo s) (code s) i j s t → Shots t
+  zeroed-shots t i j l h a b x k n p q = h .other a b x k p q (inl (λ e. omega arith))
+
+  wrote-shots : (t : List ℕ) (i j o : ℕ) (d : List ℕ) → i < mostL1 → Wrote (geo s) (code s) i j o d s t → Shots t
+  wrote-shots t i j o d l h a b x k n p q = h .other a b x k p q (inl (λ e. omega arith))
+
+  -- ---- and for the plain disk
   same-rd : (r t : List ℕ) → SameGuest (geo s) (code s) r t → SameDisk (diskSize s) (seen t) (seen r)
   unfolding SameGuest SameDisk
-  same-rd r t h y l = h (y / clusterSize s / perTable s) (y / clusterSize s % perTable s) (y % clusterSize s) (in-l1 s f y l) (mod-lt (y / clusterSize s) ep) (mod-lt y cp)
+  same-rd r t h y l = h (nr 0 (y / clusterSize s / perTable s)) (y / clusterSize s % perTable s) (y % clusterSize s) (nr-l1 _ (in-l1 y l)) (mod-lt (y / clusterSize s) ep) (mod-lt y cp)
 
-  zeroed-rd : (t : List ℕ) (c : ℕ) → Zeroed (geo s) (code s) (c / perTable s) (c % perTable s) s t → SameDisk (diskSize s) (seen t) (finished (clusterSize s) (discard c) (seen s))
+  zeroed-rd : (t : List ℕ) (c : ℕ) → Zeroed (geo s) (code s) (nr 0 (c / perTable s)) (c % perTable s) s t → SameDisk (diskSize s) (seen t) (finished (clusterSize s) (discard c) (seen s))
   unfolding SameDisk finished
   zeroed-rd t c h y l =
       if-elim (λ (v : ℕ). seen t y ≡ v) (eqb (y / clusterSize s) c) _ _
-      (λ e. ap (λ (x : ℕ). gread (geo s) (code s) (mem (clusterSize s) t) (x / perTable s) (x % perTable s) (y % clusterSize s)) (eqb-true _ _ e) ∙ h .here (y % clusterSize s) (mod-lt y cp))
-      (λ e. h .other (y / clusterSize s / perTable s) (y / clusterSize s % perTable s) (y % clusterSize s) (in-l1 s f y l) (mod-lt (y / clusterSize s) ep) (mod-lt y cp)
-      (split-index (perTable s) (y / clusterSize s) c (eqb-false _ _ e)))
+      (λ e. ap (λ (x : ℕ). gread (geo s) (code s) (mem (clusterSize s) t) (nr 0 (x / perTable s)) (x % perTable s) (y % clusterSize s)) (eqb-true _ _ e) ∙ h .here (y % clusterSize s) (mod-lt y cp))
+      (λ e. h .other (nr 0 (y / clusterSize s / perTable s)) (y / clusterSize s % perTable s) (y % clusterSize s) (nr-l1 _ (in-l1 y l)) (mod-lt (y / clusterSize s) ep) (mod-lt y cp)
+      (split-nr (y / clusterSize s) c (eqb-false _ _ e)))
 
   wrote-rd : (t : List ℕ) (x : ℕ) (d : List ℕ) → x % clusterSize s + length d ≤ clusterSize s
-      → Wrote (geo s) (code s) (x / clusterSize s / perTable s) (x / clusterSize s % perTable s) (x % clusterSize s) d s t
+      → Wrote (geo s) (code s) (nr 0 (x / clusterSize s / perTable s)) (x / clusterSize s % perTable s) (x % clusterSize s) d s t
       → SameDisk (diskSize s) (seen t) (finished (clusterSize s) (write x d) (seen s))
   unfolding SameDisk
   wrote-rd t x d fits h y l = go (ℕ-discrete (y / clusterSize s) (x / clusterSize s))
@@ -174,19 +209,19 @@ module _ (s : List ℕ) (f : Facts s) where
 
       go : Dec (y / C ≡ x / C) → seen t y ≡ finished C (write x d) (seen s) y
       go (no n) =
-          h .other (y / C / E) (y / C % E) (y % C) (in-l1 s f y l) (mod-lt (y / C) ep) (mod-lt y cp) (split-index E (y / C) (x / C) n)
+          h .other (nr 0 (y / C / E)) (y / C % E) (y % C) (nr-l1 _ (in-l1 y l)) (mod-lt (y / C) ep) (mod-lt y cp) (split-nr (y / C) (x / C) n)
           ∙ sym (written-out C x d (seen s) y (λ p. n (near p .0)))
       go (yes e) = pick (dec-range x y (length d))
         where
           e′ : y / C * C ≡ x / C * C
           e′ = ap (λ (z : ℕ). z * C) e
 
-          at : (r : List ℕ) → seen r y ≡ gread (geo s) (code s) (mem C r) (x / C / E) (x / C % E) (y % C)
-          at r = ap (λ (z : ℕ). gread (geo s) (code s) (mem C r) (z / E) (z % E) (y % C)) e
+          at : (r : List ℕ) → seen r y ≡ gread (geo s) (code s) (mem C r) (nr 0 (x / C / E)) (x / C % E) (y % C)
+          at r = ap (λ (z : ℕ). gread (geo s) (code s) (mem C r) (nr 0 (z / E)) (z % E) (y % C)) e
 
           pick : Dec ((x ≤ y) × (y < x + length d)) → seen t y ≡ finished C (write x d) (seen s) y
           pick (yes p) =
-              at t ∙ ap (λ (z : ℕ). gread (geo s) (code s) (mem C t) (x / C / E) (x / C % E) z) (near p .1) ∙ h .inside (y - x) (omega arith)
+              at t ∙ ap (λ (z : ℕ). gread (geo s) (code s) (mem C t) (nr 0 (x / C / E)) (x / C % E) z) (near p .1) ∙ h .inside (y - x) (omega arith)
               ∙ sym (written-in C x d (seen s) y (p .0) (p .1))
           pick (no n) = at t ∙ h .outside (y % C) (mod-lt y cp) (side (decLt y x)) ∙ sym (at s) ∙ sym (written-out C x d (seen s) y n)
             where
@@ -199,7 +234,7 @@ module _ (s : List ℕ) (f : Facts s) where
                   apart (no b) = absurd (n (omega arith, omega arith))
 
   part-rd : (t : List ℕ) (x : ℕ) (d : List ℕ) → x % clusterSize s + length d ≤ clusterSize s
-      → Partly (geo s) (code s) (x / clusterSize s / perTable s) (x / clusterSize s % perTable s) (x % clusterSize s) d s t
+      → Partly (geo s) (code s) (nr 0 (x / clusterSize s / perTable s)) (x / clusterSize s % perTable s) (x % clusterSize s) d s t
       → Mixed (diskSize s) (seen t) (seen s) (finished (clusterSize s) (write x d) (seen s))
   unfolding Mixed SameDisk
   part-rd t x d fits h y l = go (dec-range x y (length d))
@@ -220,13 +255,13 @@ module _ (s : List ℕ) (f : Facts s) where
           at : (y / C ≡ x / C) × (y % C ≡ x % C + (y - x))
           at = within-cluster C x y (length d) cp fits (p .0) (p .1)
 
-          old : seen s y ≡ gread (geo s) (code s) m (x / C / E) (x / C % E) (x % C + (y - x))
-          old = ap₂ (λ (a b : ℕ). gread (geo s) (code s) m (a / E) (a % E) b) (at .0) (at .1)
+          old : seen s y ≡ gread (geo s) (code s) m (nr 0 (x / C / E)) (x / C % E) (x % C + (y - x))
+          old = ap₂ (λ (a b : ℕ). gread (geo s) (code s) m (nr 0 (a / E)) (a % E) b) (at .0) (at .1)
 
           now : seen t y ≡ getD (h .bytes) (y - x) 0
           now = r ∙ written-in C x (h .bytes) (seen s) y (p .0) (omega (arith, p .1, h .len))
 
-          one : (getD (h .bytes) (y - x) 0 ≡ gread (geo s) (code s) m (x / C / E) (x / C % E) (x % C + (y - x))) ⊎ (getD (h .bytes) (y - x) 0 ≡ getD d (y - x) 0)
+          one : (getD (h .bytes) (y - x) 0 ≡ gread (geo s) (code s) m (nr 0 (x / C / E)) (x / C % E) (x % C + (y - x))) ⊎ (getD (h .bytes) (y - x) 0 ≡ getD d (y - x) 0)
               → (seen t y ≡ seen s y) ⊎ (seen t y ≡ finished C (write x d) (seen s) y)
           one (inl e) = inl (now ∙ e ∙ sym old)
           one (inr e) = inr (now ∙ e ∙ sym (written-in C x d (seen s) y (p .0) (p .1)))
@@ -238,10 +273,10 @@ module _ (s : List ℕ) (f : Facts s) where
   Exact (repair n) t = (c : ℕ) → c < clusters s → cnt (geo s) (mem (clusterSize s) t) c ≡ refsOf (geo s) (code s) (mem (clusterSize s) t) c
 
   abbrev pub Mid : Request → Bool → List ℕ → Type 0
-  Mid r b t = Kept t × ((u : ℕ) → Fed (Stopped u) b (diskSize s) (seen s) (finished (clusterSize s) r (seen s)) (seen t))
+  Mid r b t = Kept t × ((u : ℕ) → Fed (Stopped u) b (diskSize s) (seen s) (finished (clusterSize s) r (seen s)) (seen t)) × Shots t
 
   abbrev pub End : Request → List ℕ → Type 0
-  End r t = Kept t × (SameDisk (diskSize s) (seen t) (finished (clusterSize s) r (seen s)) × Exact r t)
+  End r t = Kept t × (SameDisk (diskSize s) (seen t) (finished (clusterSize s) r (seen s)) × Exact r t) × Shots t
 
   -- the autoclear field may as well be cleared before the units of a list as after them
   abbrev Aside : List UnitStore → Type 0
@@ -270,7 +305,11 @@ module _ (s : List ℕ) (f : Facts s) where
 
     mid-cleared : (r : Request) (b : Bool) → Mid r b t → Mid r b (applyU clear t)
     unfolding SameDisk
-    mid-cleared r b h = (cleared .0, λ u. fed-same (diskSize s) _ _ _ _ _ _ (λ y l. refl) (λ y l. refl) (λ y l. sym (cleared-seen y l)) (Stopped u) b (h .1 u))
+    mid-cleared r b h = (
+      cleared .0,
+      λ u. fed-same (diskSize s) _ _ _ _ _ _ (λ y l. refl) (λ y l. refl) (λ y l. sym (cleared-seen y l)) (Stopped u) b (h .1 u),
+      λ a b x l n p q. cleared .1 .reads a b x l p q ∙ h .2 a b x l n p q,
+    )
 
     exact-cleared : (r : Request) → Exact r t → Exact r (applyU clear t)
     unfolding Exact
@@ -280,7 +319,7 @@ module _ (s : List ℕ) (f : Facts s) where
 
     end-cleared : (r : Request) → End r t → End r (applyU clear t)
     unfolding SameDisk
-    end-cleared r h = (cleared .0, ((λ y l. cleared-seen y l ∙ h .1 .0 y l), exact-cleared r (h .1 .1)))
+    end-cleared r h = (cleared .0, ((λ y l. cleared-seen y l ∙ h .1 .0 y l), exact-cleared r (h .1 .1)), λ a b x l n p q. cleared .1 .reads a b x l p q ∙ h .2 a b x l n p q)
 
   module _ (k : Kept s) where
     -- a list that is fine is so after the clearing unit
@@ -294,7 +333,7 @@ module _ (s : List ℕ) (f : Facts s) where
         uncut (c ∷ cs) = refl
 
         cut : (a : ℕ) (cs : List Bool) → Mid r (storesCount us) (applyAll (roughly (clear ∷ us) a cs) s)
-        cut zero cs = rw (uncut cs) (k, strong (storesCount us) (diskSize s) (seen s) (finished (clusterSize s) r (seen s)) (seen s) (inl (λ y l. refl)))
+        cut zero cs = rw (uncut cs) (k, strong (storesCount us) (diskSize s) (seen s) (finished (clusterSize s) r (seen s)) (seen s) (inl (λ y l. refl)), λ a b x l n p q. refl)
         cut (suc a) cs = subst (Mid r (storesCount us)) (sym (h .2 a cs s)) (mid-cleared _ (h .0 a cs .0) r (storesCount us) (h .0 a cs))
 
         whole : applyAll us (applyU clear s) ≡ applyU clear (applyAll us s)
@@ -316,7 +355,7 @@ module _ (s : List ℕ) (f : Facts s) where
 
     fine-none : (r : Request) → SameDisk (diskSize s) (seen s) (finished (clusterSize s) r (seen s)) → Exact r s → Fine r (units [])
     unfolding Fine applyAll SameDisk
-    fine-none r h e = ((λ a cs. rw (roughly-nil a cs) (k, strong (storesCount []) (diskSize s) (seen s) (finished (clusterSize s) r (seen s)) (seen s) (inl (λ y l. refl)))), (k, (h, e)), like-clear none)
+    fine-none r h e = ((λ a cs. rw (roughly-nil a cs) (k, strong (storesCount []) (diskSize s) (seen s) (finished (clusterSize s) r (seen s)) (seen s) (inl (λ y l. refl)), λ u b x l n p q. refl)), (k, (h, e), λ u b x l n p q. refl), like-clear none)
 
     fine-refused : (r : Request) (n : ℕ) → Fine r (refused n)
     unfolding Fine
@@ -356,7 +395,7 @@ module _ (s : List ℕ) (f : Facts s) where
 
     module _ (x : ℕ) (d : List ℕ) (sm : Bytes d) (inSize : x + length d ≤ diskSize s) (some-bytes : length d ≢ 0) (inC : x % clusterSize s + length d ≤ clusterSize s) where
       abbrev i : ℕ
-      i = x / clusterSize s / perTable s
+      i = nr 0 (x / clusterSize s / perTable s)
 
       abbrev j : ℕ
       j = x / clusterSize s % perTable s
@@ -364,8 +403,17 @@ module _ (s : List ℕ) (f : Facts s) where
       abbrev o : ℕ
       o = x % clusterSize s
 
-      li : i < l1Size s
-      li = in-l1 s f x (omega arith)
+      lr : x / clusterSize s / perTable s < rootSize s 0
+      lr = in-l1 x (omega arith)
+
+      li : i < roots s * mostL1
+      li = nr-l1 _ lr
+
+      iM : i < mostL1
+      iM = omega (arith, lr, root-few s f 0 first-root)
+
+      hi : Has (geo s) i
+      hi = has s f 0 (x / clusterSize s / perTable s) first-root lr
 
       lj : j < perTable s
       lj = mod-lt (x / clusterSize s) ep
@@ -376,8 +424,8 @@ module _ (s : List ℕ) (f : Facts s) where
       unfolding Fine Exact
       fine-w us vs lk q =
           let r = like-run (MidW (geo s) (code s) (geo-ok s f) m i j o d s) (EndW (geo s) (code s) (geo-ok s f) m i j o d s) s lk q in (
-            (λ a cs. (r .0 a cs .0, strong (storesCount us) (diskSize s) (seen s) (finished (clusterSize s) (write x d) (seen s)) (seen (applyAll (roughly us a cs) s)) (choose _ (r .0 a cs .1)))),
-            (r .1 .0, (wrote-rd _ x d inC (r .1 .1), tt)),
+            (λ a cs. (r .0 a cs .0, strong (storesCount us) (diskSize s) (seen s) (finished (clusterSize s) (write x d) (seen s)) (seen (applyAll (roughly us a cs) s)) (choose _ (r .0 a cs .1)), shots _ (r .0 a cs .1))),
+            (r .1 .0, (wrote-rd _ x d inC (r .1 .1), tt), wrote-shots _ i j o d iM (r .1 .1)),
             like-clear lk,
           )
         where
@@ -386,32 +434,37 @@ module _ (s : List ℕ) (f : Facts s) where
           choose t (inl h) = inl (same-rd s t h)
           choose t (inr h) = inr (wrote-rd t x d inC h)
 
+          shots : (t : List ℕ) → SameGuest (geo s) (code s) s t ⊎ Wrote (geo s) (code s) i j o d s t → Shots t
+          shots t (inl h) = same-shots t h
+          shots t (inr h) = wrote-shots t i j o d iM h
+
       fine-place : (us : List UnitStore) → storesCount us ≡ false → Like (clusterSize s) us (fill (dat (geo s) (code s) m i j) o d)
-          → dat (geo s) (code s) m i j ≢ 0 → l2 (geo s) m (tab (geo s) (code s) m i) j % 2 ≡ 0 → Fine (write x d) (units us)
+          → dat (geo s) (code s) m i j ≢ 0 → refsOf (geo s) (code s) m (dat (geo s) (code s) m i j) ≤ 1 → l2 (geo s) m (tab (geo s) (code s) m i) j % 2 ≡ 0 → Fine (write x d) (units us)
       unfolding Fine Exact Fed
-      fine-place us quiet lk dn fl =
+      fine-place us quiet lk dn one fl =
           let r = like-run (MidP (geo s) (code s) (geo-ok s f) m i j o d s) (EndW (geo s) (code s) (geo-ok s f) m i j o d s) s lk
-          (place-run (geo s) (code s) (geo-ok s f) m s k i j o d li lj inC sm dn fl) in (
+          (place-run (geo s) (code s) (geo-ok s f) m s k i j o d li lj inC sm dn one fl) in (
             (λ a cs. (
               r .0 a cs .0,
               λ u. subst (λ (b : Bool). Fed (Stopped u) b (diskSize s) (seen s) (finished (clusterSize s) (write x d) (seen s)) (seen (applyAll (roughly us a cs) s))) (sym quiet)
                   (part-rd _ x d inC (r .0 a cs .1)),
+              wrote-shots _ i j o (r .0 a cs .1 .bytes) iM (r .0 a cs .1 .wrote),
             )),
-            (r .1 .0, (wrote-rd _ x d inC (r .1 .1), tt)),
+            (r .1 .0, (wrote-rd _ x d inC (r .1 .1), tt), wrote-shots _ i j o d iM (r .1 .1)),
             like-clear lk,
           )
 
       fine-new : (a c : ℕ) → a ≡ tab (geo s) (code s) m i * clusterSize s + 8 * j → tab (geo s) (code s) m i ≢ 0 → dat (geo s) (code s) m i j ≡ 0
-          → (c < clusters s → cnt (geo s) m c ≡ 0) → Fine (write x d) (writeNew s a c o d)
+          → refsOf (geo s) (code s) m (tab (geo s) (code s) m i) ≤ 1 → (c < clusters s → cnt (geo s) m c ≡ 0) → Fine (write x d) (writeNew s a c o d)
       unfolding writeNew allot
-      fine-new a c at tn dz z =
+      fine-new a c at tn dz one z =
           if-elim (Fine (write x d)) (leb (clusters s) c) _ _ (λ h. fine-refused (write x d) 14)
           (λ h. let l : c < clusters s = leb-false _ _ h in
           fine-w _ _
           (also (λ t. count-like s f c 1 l t) (count-aside s f snd c 1 l)
           (like-append (subst (λ (bs : List ℕ). Like (clusterSize s) (fillU (c * clusterSize s) (cluster (clusterSize s) o d)) (fill c 0 bs)) (cluster-around (clusterSize s) o d) (like-fill (clusterSize s) (c * clusterSize s) c 0 _ (sym (add-zero _)) (empty c l (z l))))
           (also (λ t. entry-like s f a (tab (geo s) (code s) m i) j _ _ at refl t) (entry-aside s f _ j _ tn) none)))
-          (alloc-run (geo s) (code s) (geo-ok s f) m s k i j o d li lj inC sm c l (z l) tn dz))
+          (alloc-run (geo s) (code s) (geo-ok s f) m s k i j o d li lj inC sm c l (z l) tn dz one))
 
       fine-table : (t c : ℕ) → tab (geo s) (code s) m i ≡ 0 → (c < clusters s → t < c) → (t < clusters s → cnt (geo s) m t ≡ 0) → (c < clusters s → cnt (geo s) m c ≡ 0)
           → Fine (write x d) (writeTable s (x / clusterSize s) t c o d)
@@ -426,32 +479,35 @@ module _ (s : List ℕ) (f : Facts s) where
           (like-append
           (also (λ r. count-like s f c 1 l r) (count-aside s f snd c 1 l)
           (subst (λ (bs : List ℕ). Like (clusterSize s) (fillU (c * clusterSize s) (cluster (clusterSize s) o d)) (fill c 0 bs)) (cluster-around (clusterSize s) o d) (like-fill (clusterSize s) (c * clusterSize s) c 0 _ (sym (add-zero _)) (empty c l (zc l)))))
-          (also (λ r. entry-like s f _ t j _ _ refl refl r) (entry-aside s f t j _ (empty t (omega arith) (zt (omega arith)))) (also (λ r. link-like s f (x / clusterSize s) _ r) (link-aside s f snd i _ li) none))))
-          (table-run (geo s) (code s) (geo-ok s f) m s k i j o d li lj inC sm t c (omega arith) l (omega arith) (zt (omega arith)) (zc l) tz)))
+          (also (λ r. entry-like s f _ t j _ _ refl refl r) (entry-aside s f t j _ (empty t (omega arith) (zt (omega arith)))) (also (λ r. link-like s f (x / clusterSize s) _ (omega (arith, iM)) r) (link-aside s f snd i _ li hi) none))))
+          (table-run (geo s) (code s) (geo-ok s f) m s k i j o d li lj inC sm t c (omega arith) l (omega arith) (zt (omega arith)) (zc l) hi tz)))
 
-      fine-slot : (a e : ℕ) → Slot s f (x / clusterSize s) a e → Fine (write x d) (writeSlot s a e o d)
+      fine-slot : (a e : ℕ) → Own s f (x / clusterSize s) a e → Fine (write x d) (writeSlot s a e o d)
       unfolding writeSlot zeroMark
-      fine-slot a e h =
+      fine-slot a e w =
           if-elim (Fine (write x d)) (eqb (place e) 0) _ _
-          (λ z. fine-new a (freeFrom s 0) (h .place-is) (h .table) (dat-zero s f _ a e h (eqb-true _ _ z)) (λ l. free-is 0 l .1))
-          (λ z. let dn = dat-some-own s f _ a e h (eqb-false _ _ z) in
+          (λ z. fine-new a (freeFrom s 0) (h .place-is) (h .table) (dat-zero s f 0 _ a e h (eqb-true _ _ z)) (w .lone) (λ l. free-is 0 l .1))
+          (λ z. let dn = dat-some-own s f 0 _ a e h (eqb-false _ _ z) in
           if-elim (Fine (write x d)) (eqb (e % 2) 1) _ _
           (λ b. fine-w _ _
           (like-append (subst (λ (bs : List ℕ). Like (clusterSize s) (fillU (place e) (cluster (clusterSize s) o d)) (fill (dat (geo s) (code s) m i j) 0 bs)) (cluster-around (clusterSize s) o d)
-          (like-fill (clusterSize s) (place e) (dat (geo s) (code s) m i j) 0 _ (sym (dat-place s f _ a e h) ∙ sym (add-zero _)) dn))
-          (also (λ t. entry-like s f a (tab (geo s) (code s) m i) j _ _ (h .place-is) (ap newEntry (sym (dat-place s f _ a e h))) t) (entry-aside s f _ j _ (h .table)) none))
-          (marked-run (geo s) (code s) (geo-ok s f) m s k i j o d li lj inC sm dn (λ y. omega (arith, eqb-true (e % 2) 1 b, flag, y))))
-          (λ b. fine-place _ (fill-quiet (place e + o) d) (like-fill (clusterSize s) (place e + o) (dat (geo s) (code s) m i j) o d (ap (λ (y : ℕ). y + o) (sym (dat-place s f _ a e h))) dn) dn
+          (like-fill (clusterSize s) (place e) (dat (geo s) (code s) m i j) 0 _ (sym (dat-place s f 0 _ a e h) ∙ sym (add-zero _)) dn))
+          (also (λ t. entry-like s f a (tab (geo s) (code s) m i) j _ _ (h .place-is) (ap newEntry (sym (dat-place s f 0 _ a e h))) t) (entry-aside s f _ j _ (h .table)) none))
+          (marked-run (geo s) (code s) (geo-ok s f) m s k i j o d li lj inC sm dn (w .lone) (w .lone-data dn) (λ y. omega (arith, eqb-true (e % 2) 1 b, flag, y))))
+          (λ b. fine-place _ (fill-quiet (place e + o) d) (like-fill (clusterSize s) (place e + o) (dat (geo s) (code s) m i j) o d (ap (λ (y : ℕ). y + o) (sym (dat-place s f 0 _ a e h))) dn) dn (w .lone-data dn)
           (sym flag ∙ even (eqb-false _ _ b))))
         where
+          h : Slot s f 0 (x / clusterSize s) a e
+          h = w .way-slot
+
           flag : e % 2 ≡ l2 (geo s) m (tab (geo s) (code s) m i) j % 2
           flag = ap (λ (y : ℕ). y % 2) (h .entry-is)
 
           even : e % 2 ≢ 1 → e % 2 ≡ 0
           even n = omega arith
 
-      fine-way : (w : Way) → WayIs s f (x / clusterSize s) w → Fine (write x d) (writeWay s w (x / clusterSize s) o d)
-      unfolding WayIs writeWay
+      fine-way : (w : Way) → OwnIs s f (x / clusterSize s) w → Fine (write x d) (writeWay s w (x / clusterSize s) o d)
+      unfolding OwnIs writeWay
       fine-way (bad n) h = fine-refused (write x d) n
       fine-way noTable h = fine-table (freeFrom s 0) (freeFrom s (freeFrom s 0 + 1)) h (λ l. omega (arith, free-is (freeFrom s 0 + 1) l .0)) (λ l. free-is 0 l .1) (λ l. free-is (freeFrom s 0 + 1) l .1)
       fine-way (slot a e) h = fine-slot a e h
@@ -469,64 +525,75 @@ module _ (s : List ℕ) (f : Facts s) where
     fine-write e x d sm =
         rw e
         (fine-clearing (write x d) _
-        (if-elim (Fine (write x d)) (outside s x (length d) || ltb (clusterSize s - x % clusterSize s) (length d)) _ _ (λ b. fine-refused (write x d) 11)
-        (λ b. let p = or-false (outside s x (length d)) _ b in
+        (if-elim (Fine (write x d)) (outside s 0 x (length d) || ltb (clusterSize s - x % clusterSize s) (length d)) _ _ (λ b. fine-refused (write x d) 11)
+        (λ b. let p = or-false (outside s 0 x (length d)) _ b in
         let fits : x % clusterSize s + length d ≤ clusterSize s = omega (arith, ltb-false (clusterSize s - x % clusterSize s) (length d) (p .1), mod-lt x cp) in
         if-elim (Fine (write x d)) (eqb (length d) 0) _ _
         (λ z. fine-none (write x d) (no-bytes x d (eqb-true _ _ z)) (exact-write x d))
-        (λ z. fine-way x d sm (inside s f x (length d) (p .0)) (eqb-false _ _ z) fits (way s (x / clusterSize s)) (way-is s f (x / clusterSize s))))))
+        (λ z. let w : x + length d ≤ diskSize s = rw reach-0 at (inside s f 0 x (length d) (p .0) .1) in
+        fine-way x d sm w (eqb-false _ _ z) fits (ownWay s (x / clusterSize s)) (own-way s f snd (x / clusterSize s) (in-l1 x (omega (arith, eqb-false (length d) 0 z))))))))
 
     -- ---- discard
-    fine-z : (c : ℕ) (us : List UnitStore) (vs : List Store) → Like (clusterSize s) us vs
-        → Run (clusterSize s) (MidZ (geo s) (code s) (geo-ok s f) m (c / perTable s) (c % perTable s) s) vs s (EndZ (geo s) (code s) (geo-ok s f) m (c / perTable s) (c % perTable s) s)
+    fine-z : (c : ℕ) → c / perTable s < rootSize s 0 → (us : List UnitStore) (vs : List Store) → Like (clusterSize s) us vs
+        → Run (clusterSize s) (MidZ (geo s) (code s) (geo-ok s f) m (nr 0 (c / perTable s)) (c % perTable s) s) vs s (EndZ (geo s) (code s) (geo-ok s f) m (nr 0 (c / perTable s)) (c % perTable s) s)
         → Fine (discard c) (units us)
     unfolding Fine Exact
-    fine-z c us vs lk q =
-        let r = like-run (MidZ (geo s) (code s) (geo-ok s f) m (c / perTable s) (c % perTable s) s) (EndZ (geo s) (code s) (geo-ok s f) m (c / perTable s) (c % perTable s) s) s lk q in (
-          (λ a cs. (r .0 a cs .0, strong (storesCount us) (diskSize s) (seen s) (finished (clusterSize s) (discard c) (seen s)) (seen (applyAll (roughly us a cs) s)) (choose _ (r .0 a cs .1)))),
-          (r .1 .0, (zeroed-rd _ c (r .1 .1), tt)),
+    fine-z c lc us vs lk q =
+        let r = like-run (MidZ (geo s) (code s) (geo-ok s f) m (nr 0 (c / perTable s)) (c % perTable s) s) (EndZ (geo s) (code s) (geo-ok s f) m (nr 0 (c / perTable s)) (c % perTable s) s) s lk q in (
+          (λ a cs. (r .0 a cs .0, strong (storesCount us) (diskSize s) (seen s) (finished (clusterSize s) (discard c) (seen s)) (seen (applyAll (roughly us a cs) s)) (choose _ (r .0 a cs .1)), shots _ (r .0 a cs .1))),
+          (r .1 .0, (zeroed-rd _ c (r .1 .1), tt), zeroed-shots _ _ _ cM (r .1 .1)),
           like-clear lk,
         )
       where
-        choose : (t : List ℕ) → SameGuest (geo s) (code s) s t ⊎ Zeroed (geo s) (code s) (c / perTable s) (c % perTable s) s t
+        cM : nr 0 (c / perTable s) < mostL1
+        cM = omega (arith, lc, root-few s f 0 first-root)
+
+        shots : (t : List ℕ) → SameGuest (geo s) (code s) s t ⊎ Zeroed (geo s) (code s) (nr 0 (c / perTable s)) (c % perTable s) s t → Shots t
+        shots t (inl h) = same-shots t h
+        shots t (inr h) = zeroed-shots t _ _ cM h
+
+        choose : (t : List ℕ) → SameGuest (geo s) (code s) s t ⊎ Zeroed (geo s) (code s) (nr 0 (c / perTable s)) (c % perTable s) s t
             → SameDisk (diskSize s) (seen t) (seen s) ⊎ SameDisk (diskSize s) (seen t) (finished (clusterSize s) (discard c) (seen s))
         choose t (inl h) = inl (same-rd s t h)
         choose t (inr h) = inr (zeroed-rd t c h)
 
     -- nothing there: the guest reads zeros already
-    fine-absent : (c : ℕ) → dat (geo s) (code s) m (c / perTable s) (c % perTable s) ≡ 0 → Fine (discard c) (units [])
+    fine-absent : (c : ℕ) → dat (geo s) (code s) m (nr 0 (c / perTable s)) (c % perTable s) ≡ 0 → Fine (discard c) (units [])
     unfolding SameDisk finished Exact
     fine-absent c z =
         fine-none (discard c)
         (λ y l. if-elim (λ (v : ℕ). seen s y ≡ v) (eqb (y / clusterSize s) c) _ _
-        (λ e. ap (λ (x : ℕ). gread (geo s) (code s) m (x / perTable s) (x % perTable s) (y % clusterSize s)) (eqb-true _ _ e)
-        ∙ gread-none (geo s) (code s) m (c / perTable s) (c % perTable s) (y % clusterSize s) z)
+        (λ e. ap (λ (x : ℕ). gread (geo s) (code s) m (nr 0 (x / perTable s)) (x % perTable s) (y % clusterSize s)) (eqb-true _ _ e)
+        ∙ gread-none (geo s) (code s) m (nr 0 (c / perTable s)) (c % perTable s) (y % clusterSize s) z)
         (λ e. refl))
         tt
 
-    fine-drop : (c : ℕ) → c / perTable s < l1Size s → (a e : ℕ) → Slot s f c a e → Fine (discard c) (discardSlot s a e)
+    fine-drop : (c : ℕ) → c / perTable s < rootSize s 0 → (a e : ℕ) → Own s f c a e → Fine (discard c) (discardSlot s a e)
     unfolding discardSlot
-    fine-drop c lc a e h =
-        if-elim (Fine (discard c)) (eqb e 0) _ _ (λ z. fine-absent c (dat-zero s f c a e h (zero-place e (eqb-true _ _ z))))
+    fine-drop c lc a e w =
+        if-elim (Fine (discard c)) (eqb e 0) _ _ (λ z. fine-absent c (dat-zero s f 0 c a e h (zero-place e (eqb-true _ _ z))))
         (λ z. if-elim (Fine (discard c)) (eqb (place e) 0) _ _
-        (λ p. fine-z c _ _ (also (λ t. entry-like s f a (tab (geo s) (code s) m (c / perTable s)) (c % perTable s) _ _ (h .place-is) refl t) (entry-aside s f _ (c % perTable s) _ (h .table)) none)
-        (unmark-run (geo s) (code s) (geo-ok s f) m s k (c / perTable s) (c % perTable s) lc (mod-lt c ep) (h .table) (dat-zero s f c a e h (eqb-true _ _ p))))
+        (λ p. fine-z c lc _ _ (also (λ t. entry-like s f a (tab (geo s) (code s) m (nr 0 (c / perTable s))) (c % perTable s) _ _ (h .place-is) refl t) (entry-aside s f _ (c % perTable s) _ (h .table)) none)
+        (unmark-run (geo s) (code s) (geo-ok s f) m s k (nr 0 (c / perTable s)) (c % perTable s) (nr-l1 _ lc) (mod-lt c ep) (h .table) (dat-zero s f 0 c a e h (eqb-true _ _ p)) (w .lone)))
         (λ p. if-elim (Fine (discard c)) (eqb (countOf s (place e / clusterSize s)) 0) _ _ (λ n. fine-refused (discard c) 16)
-        (λ n. fine-z c _ _ (also (λ t. entry-like s f a (tab (geo s) (code s) m (c / perTable s)) (c % perTable s) _ _ (h .place-is) refl t) (entry-aside s f _ (c % perTable s) _ (h .table))
+        (λ n. fine-z c lc _ _ (also (λ t. entry-like s f a (tab (geo s) (code s) m (nr 0 (c / perTable s))) (c % perTable s) _ _ (h .place-is) refl t) (entry-aside s f _ (c % perTable s) _ (h .table))
         (also (λ t. freed t) (count-aside s f snd _ _ inN) none))
-        (discard-run (geo s) (code s) (geo-ok s f) m s k (c / perTable s) (c % perTable s) lc (mod-lt c ep) (dat-some-own s f c a e h (eqb-false _ _ p))))))
+        (discard-run (geo s) (code s) (geo-ok s f) m s k (nr 0 (c / perTable s)) (c % perTable s) (nr-l1 _ lc) (mod-lt c ep) (dat-some-own s f 0 c a e h (eqb-false _ _ p)) (w .lone) (w .lone-data (dat-some-own s f 0 c a e h (eqb-false _ _ p)))))))
       where
-        q : place e / clusterSize s ≡ dat (geo s) (code s) m (c / perTable s) (c % perTable s)
-        q = sym (dat-own s f c a e h)
+        h : Slot s f 0 c a e
+        h = w .way-slot
 
-        inN : dat (geo s) (code s) m (c / perTable s) (c % perTable s) < clusters s
-        inN = dat-in (geo s) (code s) (geo-ok s f) m snd (c / perTable s) (c % perTable s) lc (mod-lt c ep)
+        q : place e / clusterSize s ≡ dat (geo s) (code s) m (nr 0 (c / perTable s)) (c % perTable s)
+        q = sym (dat-own s f 0 c a e h)
+
+        inN : dat (geo s) (code s) m (nr 0 (c / perTable s)) (c % perTable s) < clusters s
+        inN = dat-in (geo s) (code s) (geo-ok s f) m snd (nr 0 (c / perTable s)) (c % perTable s) (nr-l1 _ lc) (mod-lt c ep)
 
         C : ℕ
         C = clusterSize s
 
         D : ℕ
-        D = dat (geo s) (code s) m (c / perTable s) (c % perTable s)
+        D = dat (geo s) (code s) m (nr 0 (c / perTable s)) (c % perTable s)
 
         less : Store
         less = countStore (geo s) m D (cnt (geo s) m D - 1)
@@ -536,10 +603,10 @@ module _ (s : List ℕ) (f : Facts s) where
             subst (λ (y : ℕ). Twin C (setCount s y (countOf s y - 1)) less t) (sym q)
             (subst (λ (y : ℕ). Twin C (setCount s D (y - 1)) less t) (cnt-own s f _ inN) (count-like s f D _ inN t))
 
-    fine-discard-way : (c : ℕ) → c / perTable s < l1Size s → (w : Way) → WayIs s f c w → Fine (discard c) (discardWay s w)
-    unfolding WayIs discardWay
+    fine-discard-way : (c : ℕ) → c / perTable s < rootSize s 0 → (w : Way) → OwnIs s f c w → Fine (discard c) (discardWay s w)
+    unfolding OwnIs discardWay
     fine-discard-way c l (bad n) h = fine-refused (discard c) n
-    fine-discard-way c l noTable h = fine-absent c (dat-none (geo s) (code s) m (c / perTable s) (c % perTable s) h)
+    fine-discard-way c l noTable h = fine-absent c (dat-none (geo s) (code s) m (nr 0 (c / perTable s)) (c % perTable s) h)
     fine-discard-way c l (slot a e) h = fine-drop c l a e h
 
     fine-discard : judge s ≡ 0 → (c : ℕ) → Fine (discard c) (discardPlan s c)
@@ -548,10 +615,10 @@ module _ (s : List ℕ) (f : Facts s) where
         rw e
         (fine-clearing (discard c) _
         (if-elim (Fine (discard c)) (leb (diskSize s) (c * clusterSize s)) _ _ (λ b. fine-refused (discard c) 11)
-        (λ b. fine-discard-way c (inL (leb-false _ _ b)) (way s c) (way-is s f c))))
+        (λ b. fine-discard-way c (inL (leb-false _ _ b)) (ownWay s c) (own-way s f snd c (inL (leb-false _ _ b))))))
       where
-        inL : c * clusterSize s < diskSize s → c / perTable s < l1Size s
-        inL l = div-lt-iff-lt-mul ep .1 (lt-of-mul-lt-mul-right (clusterSize s) (omega (arith, f .reach)))
+        inL : c * clusterSize s < diskSize s → c / perTable s < rootSize s 0
+        inL l = div-lt-iff-lt-mul ep .1 (lt-of-mul-lt-mul-right (clusterSize s) (omega (arith, reach-0, reach-in s f 0)))
 
     -- ---- repair
     fine-list : (n : ℕ) → Fine (repair n) (units (repairUnits s (figuresOf s) 0 (clusters s)))
@@ -560,8 +627,8 @@ module _ (s : List ℕ) (f : Facts s) where
         let us = repairUnits s (figuresOf s) 0 (clusters s) in
         let lk = repair-like s f snd (clusters s) 0 (omega arith) in
         let r = like-run (MidR (geo s) (code s) (geo-ok s f) m s k) (Repaired (geo s) (code s) (geo-ok s f) m s k) s lk (repair-run (geo s) (code s) (geo-ok s f) m s k) in (
-          (λ a cs. (r .0 a cs .0, strong (storesCount us) (diskSize s) (seen s) (finished (clusterSize s) (repair n) (seen s)) (seen (applyAll (roughly us a cs) s)) (inl (same-rd s _ (r .0 a cs .1))))),
-          (r .1 .still .fine, (same-rd s _ (r .1 .still .reads), r .1 .exact)),
+          (λ a cs. (r .0 a cs .0, strong (storesCount us) (diskSize s) (seen s) (finished (clusterSize s) (repair n) (seen s)) (seen (applyAll (roughly us a cs) s)) (inl (same-rd s _ (r .0 a cs .1))), same-shots _ (r .0 a cs .1))),
+          (r .1 .still .fine, (same-rd s _ (r .1 .still .reads), r .1 .exact), same-shots _ (r .1 .still .reads)),
           like-clear lk,
         )
 
@@ -570,8 +637,10 @@ module _ (s : List ℕ) (f : Facts s) where
     fine-verdict n IsSound q =
         fine-none (repair n) (λ y l. refl) (λ c l. cnt-own s f c l ∙ sound-exact s f snd q c l ∙ refs-own s f snd c)
     fine-verdict n (Leaks x) q = fine-list n
-    fine-verdict n (BadL1 i) q = fine-refused (repair n) 17
-    fine-verdict n (BadL2 i j) q = fine-refused (repair n) 17
+    fine-verdict n (BadL1 t i) q = fine-refused (repair n) 17
+    fine-verdict n (BadL2 t i j) q = fine-refused (repair n) 17
+    fine-verdict n (MarkL1 i) q = fine-refused (repair n) 17
+    fine-verdict n (MarkL2 i j) q = fine-refused (repair n) 17
     fine-verdict n (Shared c) q = fine-refused (repair n) 17
     fine-verdict n (Short c) q = fine-refused (repair n) 17
     fine-verdict n (NotChecked c) q = fine-refused (repair n) c
@@ -581,7 +650,7 @@ module _ (s : List ℕ) (f : Facts s) where
     fine-repair e n =
         rw e
         (fine-clearing (repair n) _
-        (if-elim (Fine (repair n)) (ltb n (clusters s)) _ _ (λ b. fine-refused (repair n) 15) (λ b. fine-verdict n (verdict s) refl)))
+        (if-elim (Fine (repair n)) (ltb n (2 * clusters s)) _ _ (λ b. fine-refused (repair n) 15) (λ b. fine-verdict n (verdict s) refl)))
 
     pub plan-fine : judge s ≡ 0 → (r : Request) → BytesOf r → Fine r (planOf s r)
     unfolding BytesOf planOf

@@ -1,6 +1,6 @@
 -- The references of a cluster, counted in the definitions' list, are the machinery's sum, where every entry is good. Assumes nothing.
-use Prim.Native.Nat.{ℕ, zero, suc, _+_, _-_, _*_, _/_, _%_, _<_}
-use native.Mathlib.Nat.{div-add-mod', zero-mul, add-zero, zero-div}
+use Prim.Native.Nat.{ℕ, zero, suc, _+_, _-_, _*_, _/_, _%_, _≤_, _<_}
+use native.Mathlib.Nat.{div-add-mod', zero-mul, zero-add, add-zero, zero-div, le-refl}
 use native.Mathlib.Decide.{ℕ-discrete}
 use native.Mathlib.Omega.{arith}
 use mathlib.Core.Path.{_≡_, refl, sym, ap, ap₂, _∙_}
@@ -9,23 +9,24 @@ use mathlib.Core.Bool.{true, not}
 use mathlib.Core.List.{List, [], _∷_, _++_}
 use lib.Dec.{eqb}
 use lib.ListN.{length, take, drop}
-use borrow.Author.Tests.{eqb-true, eqb-false, eq-eqb, ne-eqb}
-use Rattle.cuts.proofs.Sum.{sumTo, sum-cong, sum-zero}
-use Rattle.cuts.proofs.Refs.{when-yes, hit, hit-zero, refs, tabs, dats}
+use borrow.Author.Tests.{eqb-true, eqb-false, eq-eqb, ne-eqb, lt-ltb, le-ltb}
+use Rattle.cuts.proofs.Sum.{sumTo, sum-cong, sum-zero, sum-split, sum-short, sum-one}
+use Rattle.cuts.proofs.Refs.{when-yes, hit, hit-zero, refs, tabs, dats, within, within-is, within-not, treeRefs}
 use Rattle.cuts.proofs.Cell.{mem}
-use Rattle.cuts.proofs.Meta.{same, blk, l1, l2, fix, tab, dat, refsOf, dat-none, dat-some}
+use Rattle.cuts.proofs.Meta.{same, blk, tree, l1, l2, rooted, fix, tab, dat, refsOf, dat-none, dat-some}
 use Rattle.choice.specs.Pick.{if_then_else_, ceilDiv}
 use Rattle.endian.specs.Big.{be64, part, entries}
 use Rattle.endian.proofs.Entries.{be64-drop, take-entries}
-use Rattle.qcow2_spec.specs.Header.{version, clusterSize, l1Size, l1At, tableAt, tableClusters, blocks, perTable, table, blockAt}
+use Rattle.qcow2_spec.specs.Header.{mostL1, version, clusterSize, tableAt, tableClusters, blocks, perTable, table, blockAt, snapshots, snapshotsAt, snapshotAt, roots, rootSize, rootAt}
 use Rattle.qcow2_spec.specs.Entries.{place, goodL1, goodL2}
 use Rattle.tally.specs.Tally.{run, joined, occurrences}
-use Rattle.qcow2_spec.specs.References.{l1Entries, l2Entries, named, l2Refs, tableRefs, l1Refs, fixedRefs, references}
+use Rattle.tally.proofs.Occurs.{occ-append}
+use Rattle.qcow2_spec.specs.References.{l1Entries, l2Entries, named, l2Refs, tableRefs, l1Refs, rootRun, snapshotRun, fixedRefs, rootRefs, tablesIn, dataIn, references}
 use Rattle.choice.proofs.Tests.{if-yes, if-no, if-elim}
 use Rattle.qcow2_spec.proofs.Numbers.{part8}
-use Rattle.qcow2_spec.proofs.Facts.{Facts, Placed, placed, good-place1, good-place2, c-8, c-pos, c-in, block-named}
-use Rattle.qcow2_spec.proofs.Geo.{geo, code}
-use Rattle.qcow2_spec.proofs.Kept.{l1-at, l2-at, blk-own}
+use Rattle.qcow2_spec.proofs.Facts.{Facts, Placed, placed, good-place1, good-place2, c-8, c-pos, c-in, block-named, root-few}
+use Rattle.qcow2_spec.proofs.Geo.{startOf, spanOf, nr, geo, code, geo-ok}
+use Rattle.qcow2_spec.proofs.Kept.{nr-tree, l1-at, l1-absent, l2-at, blk-own}
 
 -- ---- sums
 pub sum-front : (n : ℕ) (f : ℕ → ℕ) → sumTo (suc n) f ≡ f 0 + sumTo n (λ i. f (suc i))
@@ -33,17 +34,7 @@ unfolding sumTo
 sum-front zero f = omega arith
 sum-front (suc n) f = omega (arith, sum-front n f)
 
-pub sum-add : (n : ℕ) (f g : ℕ → ℕ) → sumTo n (λ i. f i + g i) ≡ sumTo n f + sumTo n g
-unfolding sumTo
-sum-add zero f g = refl
-sum-add (suc n) f g = omega (arith, sum-add n f g)
-
 -- ---- occurrences
-pub occ-append : (c : ℕ) (a b : List ℕ) → occurrences c (a ++ b) ≡ occurrences c a + occurrences c b
-unfolding occurrences
-occ-append c [] b = omega arith
-occ-append c (x ∷ a) b = omega (arith, occ-append c a b)
-
 occ-four : (c : ℕ) (A B P Q : List ℕ) → occurrences c (A ++ B ++ P ++ Q) ≡ occurrences c A + occurrences c B + occurrences c P + occurrences c Q
 occ-four c A B P Q = omega (arith, occ-append c (A ++ B ++ P) Q, occ-append c (A ++ B) P, occ-append c A B)
 
@@ -81,6 +72,48 @@ occ-entries c f (suc k) t =
     occ-append c (f (be64 t 0)) (joined f (entries k (drop 8 t)))
     ∙ omega (arith, occ-entries c f k (drop 8 t), sum-front k (λ i. occurrences c (f (be64 t (8 * i)))))
 
+occ-none : (c : ℕ) → occurrences c [] ≡ 0
+unfolding occurrences
+occ-none c = refl
+
+-- f of each of the k numbers from i on
+occ-numbers : (c : ℕ) (f : ℕ → List ℕ) (i k : ℕ) → occurrences c (joined f (run i k)) ≡ sumTo k (λ j. occurrences c (f (i + j)))
+unfolding run occurrences sumTo
+occ-numbers c f i zero = refl
+occ-numbers c f i (suc k) =
+    let a : sumTo k (λ j. occurrences c (f (suc i + j))) ≡ sumTo k (λ j. occurrences c (f (i + suc j))) = sum-cong k _ _ (λ j l. ap (λ (x : ℕ). occurrences c (f x)) (omega arith)) in
+    let z : occurrences c (f (i + 0)) ≡ occurrences c (f i) = ap (λ (x : ℕ). occurrences c (f x)) (add-zero i) in
+    omega (arith, occ-append c (f i) (joined f (run (suc i) k)), occ-numbers c f (suc i) k, sum-front k (λ j. occurrences c (f (i + j))))
+
+-- the lists of f are those of g and h together
+occ-split : (c : ℕ) (f g h : ℕ → List ℕ) → ((x : ℕ) → occurrences c (f x) ≡ occurrences c (g x) + occurrences c (h x))
+    → (xs : List ℕ) → occurrences c (joined f xs) ≡ occurrences c (joined g xs) + occurrences c (joined h xs)
+unfolding occurrences
+occ-split c f g h e [] = refl
+occ-split c f g h e (x ∷ xs) = omega (arith, e x, occ-split c f g h e xs, occ-append c (f x) (joined f xs), occ-append c (g x) (joined g xs), occ-append c (h x) (joined h xs))
+
+occ-first : (c : ℕ) (l : List ℕ) → occurrences c l ≡ occurrences c (take 1 l) + occurrences c (drop 1 l)
+unfolding occurrences
+occ-first c [] = refl
+occ-first c (x ∷ l) = omega arith
+
+-- an L1 table's references, as L2 tables and as data
+pub occ-both : (s : List ℕ) (t c : ℕ) → occurrences c (rootRefs s t) ≡ occurrences c (tablesIn s t) + occurrences c (dataIn s t)
+unfolding rootRefs tablesIn dataIn
+occ-both s t c = occ-split c (l1Refs s) (λ e. take 1 (l1Refs s e)) (λ e. drop 1 (l1Refs s e)) (λ e. occ-first c (l1Refs s e)) (l1Entries s t)
+
+-- the clusters of the L1 tables, and of the snapshot table
+occ-roots : (s : List ℕ) (c : ℕ) → occurrences c (joined (rootRun s) (run 0 (roots s))) ≡ sumTo (roots s) (λ t. sumTo (spanOf s t) (λ k. same c (startOf s t + k)))
+unfolding rootRun
+occ-roots s c =
+    occ-numbers c (rootRun s) 0 (roots s)
+    ∙ sum-cong (roots s) _ _ (λ t l. rw (zero-add, lt-ltb t (roots s) l) (occ-run c (rootAt s t / clusterSize s) (ceilDiv (8 * rootSize s t) (clusterSize s))))
+
+occ-shots : (s : List ℕ) (c : ℕ) → occurrences c (snapshotRun s) ≡ sumTo (spanOf s (roots s)) (λ k. same c (startOf s (roots s) + k))
+unfolding snapshotRun
+occ-shots s c =
+    rw (le-ltb (roots s) (roots s) (le-refl (roots s))) (occ-run c (snapshotsAt s / clusterSize s) (ceilDiv (snapshotAt s (snapshots s) - snapshotsAt s) (clusterSize s)))
+
 -- a place that is 0 or a multiple of C
 div-some : (C p : ℕ) → p % C ≡ 0 → p ≢ 0 → p / C ≢ 0
 div-some C p z d e = d (sym (div-add-mod' p C) ∙ ap₂ (λ (x y : ℕ). x * C + y) e z ∙ ap (λ (x : ℕ). x + 0) (zero-mul C))
@@ -112,8 +145,8 @@ module _ (s : List ℕ) (f : Facts s) where
   pub placed2 : (e : ℕ) → goodL2 (version s) (clusterSize s) (length s) e ≡ true → Placed (clusterSize s) (length s) (place e)
   placed2 e h = placed _ _ e (c-pos s f) (c-in s f) (good-place2 _ _ _ e h)
 
-  module _ (h1 : (i : ℕ) → i < l1Size s → goodL1 (clusterSize s) (length s) (l1 (geo s) m i) ≡ true)
-      (h2 : (i j : ℕ) → i < l1Size s → j < perTable s → tab (geo s) (code s) m i ≢ 0 → goodL2 (version s) (clusterSize s) (length s) (l2 (geo s) m (tab (geo s) (code s) m i) j) ≡ true)
+  module _ (h1 : (i : ℕ) → i < roots s * mostL1 → goodL1 (clusterSize s) (length s) (l1 (geo s) m i) ≡ true)
+      (h2 : (i j : ℕ) → i < roots s * mostL1 → j < perTable s → tab (geo s) (code s) m i ≢ 0 → goodL2 (version s) (clusterSize s) (length s) (l2 (geo s) m (tab (geo s) (code s) m i) j) ≡ true)
       (c : ℕ) where
     occ-blocks : occurrences c (joined (named (clusterSize s)) (take (blocks s) (table s))) ≡ sumTo (blocks s) (λ k. same c (blk (geo s) m k))
     unfolding table
@@ -132,7 +165,7 @@ module _ (s : List ℕ) (f : Facts s) where
             at : (k : ℕ) → blockAt s k ≡ be64 s (tableAt s + 8 * k)
             at k = block-at s k
 
-    occ-l2 : (i e : ℕ) → i < l1Size s → l1 (geo s) m i ≡ e → place e ≢ 0
+    occ-l2 : (i e : ℕ) → i < roots s * mostL1 → l1 (geo s) m i ≡ e → place e ≢ 0
         → occurrences c (joined (l2Refs (version s) (clusterSize s) (length s)) (l2Entries s (place e))) ≡ sumTo (perTable s) (λ j. hit c (dat (geo s) (code s) m i j))
     unfolding l2Entries l2Refs tab
     occ-l2 i e l q d =
@@ -159,46 +192,135 @@ module _ (s : List ℕ) (f : Facts s) where
             ∙ occ-named c (clusterSize s) (place x) (placed2 x (h2 i j l n td) .whole)
             ∙ ap (hit c) (sym (dat-some (geo s) (code s) m i j td))
 
-    occ-l1 : (i : ℕ) → i < l1Size s → occurrences c (l1Refs s (l1 (geo s) m i)) ≡ hit c (tab (geo s) (code s) m i) + sumTo (perTable s) (λ j. hit c (dat (geo s) (code s) m i j))
-    unfolding l1Refs tableRefs tab occurrences
-    occ-l1 i l =
-        ap (occurrences c) (if-no (not (goodL1 (clusterSize s) (length s) e)) [] _ (ap not (h1 i l)))
-        ∙ if-elim (λ (r : List ℕ). occurrences c r ≡ hit c (place e / clusterSize s) + sumTo (perTable s) (λ j. hit c (dat (geo s) (code s) m i j)))
-        (eqb (place e) 0) [] (place e / clusterSize s ∷ joined (l2Refs (version s) (clusterSize s) (length s)) (l2Entries s (place e)))
-        (λ z. none (ap (λ (x : ℕ). x / clusterSize s) (eqb-true _ _ z) ∙ zero-div (clusterSize s)))
-        (λ z. some (eqb-false _ _ z))
+    -- what L1 entry i refers to, as a table and as data
+    module _ (i : ℕ) (l : i < roots s * mostL1) where
+      abbrev e : ℕ
+      e = l1 (geo s) m i
+
+      occ-tab : occurrences c (take 1 (l1Refs s e)) ≡ hit c (tab (geo s) (code s) m i)
+      unfolding l1Refs tableRefs tab
+      occ-tab =
+          ap (λ (r : List ℕ). occurrences c (take 1 r)) (if-no (not (goodL1 (clusterSize s) (length s) e)) [] _ (ap not (h1 i l)))
+          ∙ if-elim (λ (r : List ℕ). occurrences c (take 1 r) ≡ hit c (place e / clusterSize s)) (eqb (place e) 0) [] (place e / clusterSize s ∷ joined (l2Refs (version s) (clusterSize s) (length s)) (l2Entries s (place e)))
+          (λ z. occ-none c ∙ sym (ap (hit c) (ap (λ (x : ℕ). x / clusterSize s) (eqb-true _ _ z) ∙ zero-div (clusterSize s)) ∙ hit-zero c))
+          (λ z. occ-one c (place e / clusterSize s) ∙ same-hit c _ (div-some (clusterSize s) (place e) (placed1 e (h1 i l) .whole) (eqb-false _ _ z)))
+
+      occ-dat : occurrences c (drop 1 (l1Refs s e)) ≡ sumTo (perTable s) (λ j. hit c (dat (geo s) (code s) m i j))
+      unfolding l1Refs tableRefs tab
+      occ-dat =
+          ap (λ (r : List ℕ). occurrences c (drop 1 r)) (if-no (not (goodL1 (clusterSize s) (length s) e)) [] _ (ap not (h1 i l)))
+          ∙ if-elim (λ (r : List ℕ). occurrences c (drop 1 r) ≡ sumTo (perTable s) (λ j. hit c (dat (geo s) (code s) m i j))) (eqb (place e) 0) [] (place e / clusterSize s ∷ joined (l2Refs (version s) (clusterSize s) (length s)) (l2Entries s (place e)))
+          (λ z. occ-none c ∙ sym (sum-zero (perTable s) _ (λ j n. ap (hit c) (dat-none (geo s) (code s) m i j (ap (λ (x : ℕ). x / clusterSize s) (eqb-true _ _ z) ∙ zero-div (clusterSize s))) ∙ hit-zero c)))
+          (λ z. occ-l2 i e l refl (eqb-false _ _ z))
+
+    -- L1 table t
+    module _ (t : ℕ) (h : t < roots s) where
+      -- its numbers without an entry name nothing
+      tab-absent : (r : ℕ) → rootSize s t ≤ r → r < mostL1 → tab (geo s) (code s) m (nr t r) ≡ 0
+      unfolding tab
+      tab-absent r a b = ap (λ (x : ℕ). place x / clusterSize s) (l1-absent s f s t r h b a) ∙ geo-ok s f .laws .zero-clus
+
+      -- a list of each entry, counted over its numbers
+      occ-root : (g : ℕ → List ℕ) (v : ℕ → ℕ) → ((i : ℕ) → i < roots s * mostL1 → occurrences c (g (l1 (geo s) m i)) ≡ v i)
+          → ((r : ℕ) → rootSize s t ≤ r → r < mostL1 → v (nr t r) ≡ 0) → occurrences c (joined g (l1Entries s t)) ≡ sumTo mostL1 (λ r. v (nr t r))
+      unfolding l1Entries
+      occ-root g v k z =
+          occ-entries c g (rootSize s t) (drop (rootAt s t) s)
+          ∙ sum-cong (rootSize s t) _ _ (λ r l. ap (λ (x : ℕ). occurrences c (g x)) (be64-drop s (rootAt s t) (8 * r) ∙ sym (l1-at s f s t r h l)) ∙ k (nr t r) (omega (arith, root-few s f t h)))
+          ∙ sym (sum-short mostL1 (rootSize s t) (λ r. v (nr t r)) (root-few s f t h) z)
+
+      occ-tables : occurrences c (tablesIn s t) ≡ sumTo mostL1 (λ r. hit c (tab (geo s) (code s) m (nr t r)))
+      unfolding tablesIn
+      occ-tables = occ-root (λ e. take 1 (l1Refs s e)) (λ i. hit c (tab (geo s) (code s) m i)) occ-tab (λ r a b. ap (hit c) (tab-absent r a b) ∙ hit-zero c)
+
+      occ-data : occurrences c (dataIn s t) ≡ sumTo mostL1 (λ r. sumTo (perTable s) (λ j. hit c (dat (geo s) (code s) m (nr t r) j)))
+      unfolding dataIn
+      occ-data =
+          occ-root (λ e. drop 1 (l1Refs s e)) (λ i. sumTo (perTable s) (λ j. hit c (dat (geo s) (code s) m i j))) occ-dat
+          (λ r a b. sum-zero (perTable s) _ (λ j n. ap (hit c) (dat-none (geo s) (code s) m (nr t r) j (tab-absent r a b)) ∙ hit-zero c))
+
+    -- all L1 tables
+    pub tabs-eq : occurrences c (joined (tablesIn s) (run 0 (roots s))) ≡ tabs (roots s * mostL1) (tab (geo s) (code s) m) c
+    unfolding tabs
+    tabs-eq =
+        occ-numbers c (tablesIn s) 0 (roots s)
+        ∙ sum-cong (roots s) _ _ (λ t l. ap (λ (x : ℕ). occurrences c (tablesIn s x)) (zero-add t) ∙ occ-tables t l)
+        ∙ sym (sum-split (roots s) mostL1 (λ i. hit c (tab (geo s) (code s) m i)))
+
+    pub dats-eq : occurrences c (joined (dataIn s) (run 0 (roots s))) ≡ dats (roots s * mostL1) (perTable s) (dat (geo s) (code s) m) c
+    unfolding dats
+    dats-eq =
+        occ-numbers c (dataIn s) 0 (roots s)
+        ∙ sum-cong (roots s) _ _ (λ t l. ap (λ (x : ℕ). occurrences c (dataIn s x)) (zero-add t) ∙ occ-data t l)
+        ∙ sym (sum-split (roots s) mostL1 (λ i. sumTo (perTable s) (λ j. hit c (dat (geo s) (code s) m i j))))
+
+    -- one of them
+    pub tree-eq : (t : ℕ) → t < roots s → occurrences c (rootRefs s t) ≡ treeRefs (roots s * mostL1) (perTable s) (tree (geo s)) (tab (geo s) (code s) m) (dat (geo s) (code s) m) t c
+    unfolding refs tabs dats
+    tree-eq t l =
+        omega (
+          arith,
+          occ-both s t c,
+          occ-tables t l,
+          occ-data t l,
+          one-root t l (λ i x. hit c x) (tab (geo s) (code s) m) (hit-zero c),
+          one-root₂ t l,
+        )
       where
-        e : ℕ
-        e = l1 (geo s) m i
+        tr : (u r : ℕ) → r < mostL1 → nr u r / mostL1 ≡ u
+        tr u r l = nr-tree u r l
 
-        none : place e / clusterSize s ≡ 0 → 0 ≡ hit c (place e / clusterSize s) + sumTo (perTable s) (λ j. hit c (dat (geo s) (code s) m i j))
-        none z =
-            let a : hit c (place e / clusterSize s) ≡ 0 = ap (hit c) z ∙ hit-zero c in
-            let b : sumTo (perTable s) (λ j. hit c (dat (geo s) (code s) m i j)) ≡ 0 = sum-zero (perTable s) _ (λ j n. ap (hit c) (dat-none (geo s) (code s) m i j z) ∙ hit-zero c) in
-            omega arith
+        one-root : (t : ℕ) → t < roots s → (g : ℕ → ℕ → ℕ) (x : ℕ → ℕ) → hit c 0 ≡ 0
+            → sumTo (roots s * mostL1) (λ i. hit c (within (tree (geo s)) t i (x i))) ≡ sumTo mostL1 (λ r. hit c (x (nr t r)))
+        one-root t l g x z =
+            sum-split (roots s) mostL1 (λ i. hit c (within (tree (geo s)) t i (x i)))
+            ∙ sum-one (roots s) _ t l (λ u k d. sum-zero mostL1 _ (λ r n. ap (hit c) (within-not (tree (geo s)) t (nr u r) (x (nr u r)) (λ e. d (sym (tr u r n) ∙ e))) ∙ z))
+            ∙ sum-cong mostL1 _ _ (λ r n. ap (hit c) (within-is (tree (geo s)) t (nr t r) (x (nr t r)) (tr t r n)))
 
-        some : place e ≢ 0 → occurrences c (place e / clusterSize s ∷ joined (l2Refs (version s) (clusterSize s) (length s)) (l2Entries s (place e)))
-            ≡ hit c (place e / clusterSize s) + sumTo (perTable s) (λ j. hit c (dat (geo s) (code s) m i j))
-        some d =
-            ap₂ (λ (x y : ℕ). x + y) (one c (place e / clusterSize s) ∙ same-hit c _ (div-some (clusterSize s) (place e) (placed1 e (h1 i l) .whole) d)) (occ-l2 i e l refl d)
+        one-root₂ : (t : ℕ) → t < roots s
+            → sumTo (roots s * mostL1) (λ i. sumTo (perTable s) (λ j. hit c (within (tree (geo s)) t i (dat (geo s) (code s) m i j)))) ≡ sumTo mostL1 (λ r. sumTo (perTable s) (λ j. hit c (dat (geo s) (code s) m (nr t r) j)))
+        one-root₂ t l =
+            sum-split (roots s) mostL1 (λ i. sumTo (perTable s) (λ j. hit c (within (tree (geo s)) t i (dat (geo s) (code s) m i j))))
+            ∙ sum-one (roots s) _ t l (λ u k d. sum-zero mostL1 _ (λ r n. sum-zero (perTable s) _ (λ j o. ap (hit c) (within-not (tree (geo s)) t (nr u r) (dat (geo s) (code s) m (nr u r) j) (λ e. d (sym (tr u r n) ∙ e))) ∙ hit-zero c)))
+            ∙ sum-cong mostL1 _ _ (λ r n. sum-cong (perTable s) _ _ (λ j o. ap (hit c) (within-is (tree (geo s)) t (nr t r) (dat (geo s) (code s) m (nr t r) j) (tr t r n))))
 
-    occ-l1s : occurrences c (joined (l1Refs s) (l1Entries s)) ≡ tabs (l1Size s) (tab (geo s) (code s) m) c + dats (l1Size s) (perTable s) (dat (geo s) (code s) m) c
-    unfolding l1Entries tabs dats
-    occ-l1s =
-        occ-entries c (l1Refs s) (l1Size s) (drop (l1At s) s)
-        ∙ sum-cong (l1Size s) _ _ (λ i l. ap (λ (x : ℕ). occurrences c (l1Refs s x)) (be64-drop s (l1At s) (8 * i) ∙ sym (l1-at s f s i)) ∙ occ-l1 i l)
-        ∙ sum-add (l1Size s) (λ i. hit c (tab (geo s) (code s) m i)) (λ i. sumTo (perTable s) (λ j. hit c (dat (geo s) (code s) m i j)))
+    -- no more than these
+    pub tree-none : (t : ℕ) → roots s ≤ t → treeRefs (roots s * mostL1) (perTable s) (tree (geo s)) (tab (geo s) (code s) m) (dat (geo s) (code s) m) t c ≡ 0
+    unfolding refs tabs dats
+    tree-none t l =
+        omega (
+          arith,
+          sum-zero (roots s * mostL1) (λ i. hit c (within (tree (geo s)) t i (tab (geo s) (code s) m i))) (λ i k. none i (tab (geo s) (code s) m i) k),
+          sum-zero (roots s * mostL1) (λ i. sumTo (perTable s) (λ j. hit c (within (tree (geo s)) t i (dat (geo s) (code s) m i j))))
+              (λ i k. sum-zero (perTable s) (λ j. hit c (within (tree (geo s)) t i (dat (geo s) (code s) m i j))) (λ j o. none i (dat (geo s) (code s) m i j) k)),
+        )
+      where
+        none : (i x : ℕ) → i < roots s * mostL1 → hit c (within (tree (geo s)) t i x) ≡ 0
+        none i x k = ap (hit c) (within-not (tree (geo s)) t i x (λ e. omega (arith, e))) ∙ hit-zero c
 
-    pub refs-eq : occurrences c (references s) ≡ refsOf (geo s) (code s) m c
-    unfolding references fixedRefs refs fix occurrences
-    refs-eq =
+    -- the fixed clusters
+    pub fixed-eq : occurrences c (fixedRefs s) ≡ fix (geo s) m c
+    unfolding fixedRefs fix rooted occurrences sumTo
+    fixed-eq =
         omega (
           arith,
           one c 0,
-          occ-four c (run (tableAt s / clusterSize s) (tableClusters s)) (run (l1At s / clusterSize s) (ceilDiv (8 * l1Size s) (clusterSize s)))
-              (joined (named (clusterSize s)) (take (blocks s) (table s))) (joined (l1Refs s) (l1Entries s)),
+          occ-four c (run (tableAt s / clusterSize s) (tableClusters s)) (joined (rootRun s) (run 0 (roots s))) (snapshotRun s)
+              (joined (named (clusterSize s)) (take (blocks s) (table s))),
           occ-run c (tableAt s / clusterSize s) (tableClusters s),
-          occ-run c (l1At s / clusterSize s) (ceilDiv (8 * l1Size s) (clusterSize s)),
+          occ-roots s c,
+          occ-shots s c,
           occ-blocks,
-          occ-l1s,
+        )
+
+    pub refs-eq : occurrences c (references s) ≡ refsOf (geo s) (code s) m c
+    unfolding references refs
+    refs-eq =
+        omega (
+          arith,
+          occ-append c (fixedRefs s) (joined (rootRefs s) (run 0 (roots s))),
+          fixed-eq,
+          occ-split c (rootRefs s) (tablesIn s) (dataIn s) (λ t. occ-both s t c) (run 0 (roots s)),
+          tabs-eq,
+          dats-eq,
         )

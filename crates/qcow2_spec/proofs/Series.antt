@@ -1,20 +1,22 @@
 -- Demand 3, for rough cuts and so for smooth ones: the theorem about every series of calls on every image that is sound or leaking. Assumes nothing.
-use Prim.Native.Nat.{ℕ, zero, suc, _+_, _-_, _/_, _≤_, _<_}
-use native.Mathlib.Nat.{le-refl}
+use Prim.Native.Nat.{ℕ, zero, suc, _+_, _-_, _*_, _/_, _%_, _≤_, _<_}
+use native.Mathlib.Nat.{le-refl, mod-lt}
+use native.Mathlib.Decide.{decLt}
 use native.Mathlib.Omega.{arith}
 use mathlib.Core.Path.{_≡_, refl, sym, ap, ap₂, _∙_, subst}
-use mathlib.Core.Bool.{Bool, false, _&&_}
+use mathlib.Core.Logic.{_⊎_, inl, inr}
+use mathlib.Core.Bool.{Bool, true, false, _&&_, _||_}
 use mathlib.Core.List.{List, [], _∷_}
 use lib.Dec.{leb, ltb, eqb}
 use lib.ListN.{length, getD}
-use borrow.Author.Tests.{leb-true, le-ltb}
+use borrow.Author.Tests.{leb-true, le-ltb, le-leb, lt-leb}
 use Rattle.cuts.proofs.Cell.{mem}
 use Rattle.cuts.proofs.Meta.{Geo, Codec, cnt, refsOf, Sound}
 use Rattle.cuts.proofs.Call.{Ok}
-use Rattle.choice.specs.Pick.{if_then_else_, unless}
-use Rattle.qcow2_spec.specs.Header.{clusterSize, clusters, diskSize, judge}
+use Rattle.choice.specs.Pick.{if_then_else_, unless, each}
+use Rattle.qcow2_spec.specs.Header.{clusterSize, clusters, diskSize, perTable, roots, judge}
 use Rattle.qcow2_spec.specs.Counts.{countOf}
-use Rattle.qcow2_spec.specs.Guest.{guestByte, outside}
+use Rattle.qcow2_spec.specs.Guest.{guestByte, reach, outside, readInto}
 use Rattle.units.specs.Plan.{Plan, refused, units, planUnits, ended, outcome}
 use Rattle.units.specs.Units.{applyAll}
 use Rattle.tally.specs.Tally.{occurrences}
@@ -27,16 +29,16 @@ use Rattle.units.specs.Plan.{storesCount}
 use Rattle.qcow2_spec.specs.Disk.{Request, write, discard, repair, planOf, finished, SameDisk, Fed}
 use Rattle.qcow2_spec.specs.Rough.{roughly, afterRough}
 use Rattle.qcow2_spec.specs.Series.{Bytes, Healthy, Agrees, Mended, MendedBy, Call, BytesOf, AllBytes, left, leftRough, ends, Step, Holds, RoughHolds, Demand3, RoughDemand3}
-use Rattle.choice.proofs.Tests.{if-no, if-elim, false-or}
-use Rattle.qcow2_spec.proofs.Facts.{Facts, facts, n-whole}
-use Rattle.qcow2_spec.proofs.Geo.{geo, code}
-use Rattle.qcow2_spec.proofs.Kept.{cnt-own, same-judge, same-geo, same-code, same-disk, same-size, same-clusters}
+use Rattle.choice.proofs.Tests.{if-no, if-elim, false-or, two-ways}
+use Rattle.qcow2_spec.proofs.Facts.{Facts, facts, c-pos, e-pos, n-whole, root-few, root-count}
+use Rattle.qcow2_spec.proofs.Geo.{nr, geo, code}
+use Rattle.qcow2_spec.proofs.Kept.{cnt-own, same-judge, same-geo, same-code, same-disk, same-size, same-perTable, same-clusters, same-roots, same-rootSize}
 use Rattle.qcow2_spec.proofs.Verdicts.{refs-own, healthy-sound, sound-healthy, exact-sound}
-use Rattle.qcow2_spec.proofs.Ways.{rd, guest-rd, accepted, read-whole}
+use Rattle.qcow2_spec.proofs.Ways.{rd, guest-rd, in-root, inside, accepted, read-whole, read-outside}
 use Rattle.qcow2_spec.proofs.Rough.{roughly-nil, roughly-all, smooth-cut}
-use Rattle.qcow2_spec.proofs.Plans.{fed-same, Exact, Fine, plan-fine}
+use Rattle.qcow2_spec.proofs.Plans.{fed-same, Shots, Exact, Fine, plan-fine}
 
--- an image of the series: accepted, sound or leaking, and of the first image's shape
+-- an image of the series: accepted, sound or leaking, of the first image's shape, and with its snapshots
 record Good (start s : List ℕ) : Type 0 where
   judged : judge s ≡ 0
   bytes : Bytes s
@@ -45,29 +47,77 @@ record Good (start s : List ℕ) : Type 0 where
   one-C : clusterSize s ≡ clusterSize start
   one-N : clusters s ≡ clusters start
   one-length : length s ≡ length start
+  one-roots : roots s ≡ roots start
+  one-reach : (t : ℕ) → t < roots start → reach s t ≡ reach start t
+  shots : (k y : ℕ) → suc k < roots start → y < reach start (suc k) → guestByte s (suc k) y ≡ guestByte start (suc k) y
+
+each-same : (f g : ℕ → ℕ) (k x : ℕ) → ((y : ℕ) → x ≤ y → y < x + k → f y ≡ g y) → each f x k ≡ each g x k
+each-same f g zero x h = refl
+each-same f g (suc k) x h = ap₂ (λ (y : ℕ) (l : List ℕ). y ∷ l) (h x (le-refl x) (omega arith)) (each-same f g k (suc x) (λ y a b. h y (omega arith) (omega arith)))
+
+reach-0 : (s : List ℕ) → reach s 0 ≡ diskSize s
+unfolding reach
+reach-0 s = refl
+
+test-same : (s t : List ℕ) (u x len : ℕ) → roots s ≡ roots t → reach s u ≡ reach t u → outside s u x len ≡ outside t u x len
+unfolding outside
+test-same s t u x len e r = rw (e, r) refl
+
+-- there is no such L1 table
+no-root : (s : List ℕ) (t x len : ℕ) → roots s ≤ t → outside s t x len ≡ true
+unfolding outside
+no-root s t x len h = rw (le-leb (roots s) t h) refl
 
 module _ (start s : List ℕ) (k : Good start s) where
   fs : Facts s
   fs = facts s (k .judged)
 
   own : Ok (geo s) (code s) (mem (clusterSize s) s) s
-  own = record { len = sym (n-whole s fs); small = k .bytes; sound = k .sound; head = λ x l b. refl; table = λ i l. refl }
+  own = record { len = sym (n-whole s fs); small = k .bytes; sound = k .sound; head = λ x l b. refl; table = λ i l. refl; directory = λ q x l h. refl }
 
-  checked : (n : ℕ) → clusters start ≤ n → check s n ≡ verdict s
+  checked : (n : ℕ) → 2 * clusters start ≤ n → check s n ≡ verdict s
   unfolding check
-  checked n l = rw (k .judged) (if-no (ltb n (clusters s)) (NotChecked 15) (verdict s) (le-ltb n (clusters s) (omega (arith, k .one-N))))
+  checked n l = rw (k .judged) (if-no (ltb n (2 * clusters s)) (NotChecked 15) (verdict s) (le-ltb n (2 * clusters s) (omega (arith, k .one-N))))
 
-  within : (x len : ℕ) → x + len ≤ diskSize start → outside s x len ≡ false
+  within : (t x len : ℕ) → t < roots start → x + len ≤ reach start t → outside s t x len ≡ false
   unfolding outside
-  within x len l =
-      false-or (ltb (diskSize s) x) (ltb (diskSize s - x) len) (le-ltb (diskSize s) x (omega (arith, k .one-size)))
-      (le-ltb (diskSize s - x) len (omega (arith, k .one-size)))
+  within t x len h l =
+      let r : reach s t ≡ reach start t = k .one-reach t h in
+      false-or (leb (roots s) t || ltb (reach s t) x) (ltb (reach s t - x) len)
+      (false-or (leb (roots s) t) (ltb (reach s t) x) (lt-leb (roots s) t (omega (arith, k .one-roots))) (le-ltb (reach s t) x (omega arith)))
+      (le-ltb (reach s t - x) len (omega arith))
 
-  agrees : Agrees start s (guestByte s)
-  agrees =
+  first-root : 0 < roots start
+  first-root = omega (arith, k .one-roots, root-count s fs)
+
+  -- a read of a snapshot gives what it gave on the first image
+  kept : Good start start → (n x : ℕ) (out : List ℕ) → readInto s (suc n) x out ≡ readInto start (suc n) x out
+  kept b n x out = go (decLt (suc n) (roots start)) (two-ways (outside start (suc n) x (length out)))
+    where
+      f0 : Facts start
+      f0 = facts start (b .judged)
+
+      same-test : suc n < roots start → outside s (suc n) x (length out) ≡ outside start (suc n) x (length out)
+      same-test h = test-same s start (suc n) x (length out) (k .one-roots) (k .one-reach (suc n) h)
+
+      go : Dec (suc n < roots start) → (outside start (suc n) x (length out) ≡ true) ⊎ (outside start (suc n) x (length out) ≡ false) → readInto s (suc n) x out ≡ readInto start (suc n) x out
+      go (no h) w =
+          read-outside s fs (k .judged) (suc n) x out (no-root s (suc n) x (length out) (omega (arith, k .one-roots)))
+          ∙ sym (read-outside start f0 (b .judged) (suc n) x out (no-root start (suc n) x (length out) (omega arith)))
+      go (yes h) (inl w) =
+          read-outside s fs (k .judged) (suc n) x out (same-test h ∙ w) ∙ sym (read-outside start f0 (b .judged) (suc n) x out w)
+      go (yes h) (inr w) =
+          read-whole s fs (k .judged) (k .sound) (suc n) x out (same-test h ∙ w)
+          ∙ each-same (guestByte s (suc n)) (guestByte start (suc n)) (length out) x
+          (λ y l m. k .shots n y h (omega (arith, inside start f0 (suc n) x (length out) w .1)))
+          ∙ sym (read-whole start f0 (b .judged) (b .sound) (suc n) x out w)
+
+  agrees : Good start start → Agrees start s (guestByte s 0)
+  agrees b =
       record {
-        accepted = λ x len l. accepted s fs (k .judged) (k .sound) x len (within x len l);
-        reads = λ x out l. read-whole s fs (k .judged) (k .sound) x out (within x (length out) l);
+        accepted = λ t x len h l. accepted s fs (k .judged) (k .sound) t x len (within t x len h l);
+        reads = λ x out l. read-whole s fs (k .judged) (k .sound) 0 x out (within 0 x (length out) first-root (rw (reach-0 start) l));
+        kept = kept b;
         checks = λ n l. rw (checked n l) (sound-healthy s fs (k .sound));
         same-size = k .one-size;
         same-clusters = k .one-N;
@@ -86,33 +136,54 @@ module _ (start s : List ℕ) (k : Good start s) where
     moved : (P : Geo → Codec → Type 0) → P (geo s) (code s) → P (geo t) (code t)
     moved P p = subst (λ (g : Geo). P g (code t)) (sym (same-geo s fs t q)) (subst (λ (K : Codec). P (geo s) K) (sym (same-code s fs t q)) p)
 
-    next-good : Good start t
-    next-good =
+    next-sound : Sound (geo t) (code t) (mem (clusterSize t) t)
+    next-sound = moved (λ (g : Geo) (K : Codec). Sound g K (mem (g .C) t)) (q .sound)
+
+    next-facts : Facts t
+    next-facts = facts t (same-judge s fs t q ∙ k .judged)
+
+    same-reach : (u : ℕ) → u < roots s → reach t u ≡ reach s u
+    unfolding reach
+    same-reach zero l = same-disk s fs t q
+    same-reach (suc n) l = rw (same-rootSize s fs t q (suc n) l, same-perTable s fs t q, same-size s fs t q) refl
+
+    next-byte : (u : ℕ) → u < roots s → (y : ℕ) → y < reach s u → guestByte t u y ≡ rd (geo s) (code s) t u y
+    next-byte u h y l =
+        guest-rd t next-facts next-sound u (rw (same-roots s fs t q) h) y (rw (same-reach u h) l)
+        ∙ ap₂ (λ (g : Geo) (K : Codec). rd g K t u y) (same-geo s fs t q) (same-code s fs t q)
+
+    next-good : Shots s fs t → Good start t
+    next-good sh =
         record {
           judged = same-judge s fs t q ∙ k .judged;
           bytes = q .small;
-          sound = moved (λ (g : Geo) (K : Codec). Sound g K (mem (g .C) t)) (q .sound);
+          sound = next-sound;
           one-size = same-disk s fs t q ∙ k .one-size;
           one-C = same-size s fs t q ∙ k .one-C;
           one-N = same-clusters s fs t q ∙ k .one-N;
           one-length = q .len ∙ n-whole s fs ∙ k .one-length;
+          one-roots = same-roots s fs t q ∙ k .one-roots;
+          one-reach = λ u l. same-reach u (omega (arith, k .one-roots)) ∙ k .one-reach u l;
+          shots = λ n y l h. shot n y (omega (arith, k .one-roots)) (omega (arith, k .one-reach (suc n) l)) ∙ k .shots n y l h;
         }
+      where
+        shot : (n y : ℕ) → suc n < roots s → y < reach s (suc n) → guestByte t (suc n) y ≡ guestByte s (suc n) y
+        shot n y l h =
+            next-byte (suc n) l y h
+            ∙ sh (nr (suc n) (y / clusterSize s / perTable s)) (y / clusterSize s % perTable s) (y % clusterSize s)
+            (omega (arith, in-root s fs (suc n) y h, root-few s fs (suc n) l)) (omega arith) (mod-lt (y / clusterSize s) (e-pos s fs)) (mod-lt y (c-pos s fs))
+            ∙ sym (guest-rd s fs (k .sound) (suc n) l y h)
 
-    next-facts : Facts t
-    next-facts = facts t (next-good .judged)
-
-    next-seen : SameDisk (diskSize s) (rd (geo s) (code s) t) (guestByte t)
+    next-seen : SameDisk (diskSize s) (rd (geo s) (code s) t 0) (guestByte t 0)
     unfolding SameDisk
-    next-seen y l =
-        sym (guest-rd t next-facts (next-good .sound) y (rw (same-disk s fs t q) l)
-        ∙ ap₂ (λ (g : Geo) (K : Codec). rd g K t y) (same-geo s fs t q) (same-code s fs t q))
+    next-seen y l = sym (next-byte 0 (omega (arith, root-count s fs)) y (rw (reach-0 s) l))
 
     next-exact : ((c : ℕ) → c < clusters s → cnt (geo s) (mem (clusterSize s) t) c ≡ refsOf (geo s) (code s) (mem (clusterSize s) t) c)
         → (c : ℕ) → c < clusters t → countOf t c ≡ occurrences c (references t)
     next-exact h c l =
         sym (cnt-own t next-facts c l)
         ∙ moved (λ (g : Geo) (K : Codec). (c : ℕ) → c < g .N → cnt g (mem (g .C) t) c ≡ refsOf g K (mem (g .C) t) c) h c l
-        ∙ sym (refs-own t next-facts (next-good .sound) c)
+        ∙ sym (refs-own t next-facts next-sound c)
 
 -- ---- the plain disk may be read off by either side
 finished-same : (C size : ℕ) (r : Request) (a b : ℕ → ℕ) → SameDisk size a b → SameDisk size (finished C r a) (finished C r b)
@@ -130,47 +201,49 @@ ExactBy s f r (Finished u) t = Exact s f r t
 module _ (start s : List ℕ) (k : Good start s) where
   record Result (r : Request) (o : Outcome) (b : Bool) (t : List ℕ) : Type 0 where
     kept : Ok (geo s) (code s) (mem (clusterSize s) s) t
-    fed : Fed o b (diskSize s) (rd (geo s) (code s) s) (finished (clusterSize s) r (rd (geo s) (code s) s)) (rd (geo s) (code s) t)
+    fed : Fed o b (diskSize s) (rd (geo s) (code s) s 0) (finished (clusterSize s) r (rd (geo s) (code s) s 0)) (rd (geo s) (code s) t 0)
+    shots : Shots s (fs start s k) t
     exact : ExactBy s (fs start s k) r o t
 
   result : (r : Request) (a : ℕ) (bytes : List Bool) (p : Plan) → Fine s (fs start s k) r p → Result r (outcome p a) (storesCount (planUnits p)) (afterRough p a bytes s)
   unfolding outcome ended afterRough planUnits applyAll Fine Fed ExactBy SameDisk
-  result r a bytes (refused n) h = rw (roughly-nil a bytes) (record { kept = own start s k; fed = λ y l. refl; exact = tt })
+  result r a bytes (refused n) h = rw (roughly-nil a bytes) (record { kept = own start s k; fed = λ y l. refl; shots = λ u b x l n p q. refl; exact = tt })
   result r a bytes (units us) h =
       if-elim (λ (o : Outcome). Result r o (storesCount us) (applyAll (roughly us a bytes) s)) (leb (length us) a) (Finished (length us)) (Stopped a)
-      (λ e. rw (roughly-all us a bytes (leb-true _ _ e)) (record { kept = h .1 .0; fed = h .1 .1 .0; exact = h .1 .1 .1 }))
-      (λ e. record { kept = h .0 a bytes .0; fed = h .0 a bytes .1 a; exact = tt })
+      (λ e. rw (roughly-all us a bytes (leb-true _ _ e)) (record { kept = h .1 .0; fed = h .1 .1 .0; shots = h .1 .2; exact = h .1 .1 .1 }))
+      (λ e. record { kept = h .0 a bytes .0; fed = h .0 a bytes .1 a; shots = h .0 a bytes .2; exact = tt })
 
-  by-repair : (r : Request) (o : Outcome) (t : List ℕ) → Ok (geo s) (code s) (mem (clusterSize s) s) t → ExactBy s (fs start s k) r o t → MendedBy r o start t
+  by-repair : (r : Request) (o : Outcome) (t : List ℕ) → Ok (geo s) (code s) (mem (clusterSize s) s) t → Shots s (fs start s k) t → ExactBy s (fs start s k) r o t → MendedBy r o start t
   unfolding MendedBy ExactBy Exact
-  by-repair (write x d) o t q h = tt
-  by-repair (discard g) o t q h = tt
-  by-repair (repair n) (Refused m) t q h = tt
-  by-repair (repair n) (Stopped u) t q h = tt
-  by-repair (repair n) (Finished u) t q h = mended start t (next-good start s k t q) (next-exact start s k t q h)
+  by-repair (write x d) o t q sh h = tt
+  by-repair (discard g) o t q sh h = tt
+  by-repair (repair n) (Refused m) t q sh h = tt
+  by-repair (repair n) (Stopped u) t q sh h = tt
+  by-repair (repair n) (Finished u) t q sh h = mended start t (next-good start s k t q sh) (next-exact start s k t q h)
 
-  step : (c : Call) (bytes : List Bool) → BytesOf (c .asks) → Good start (leftRough s c bytes) × Step start s (guestByte s) c (leftRough s c bytes) (guestByte (leftRough s c bytes))
+  step : Good start start → (c : Call) (bytes : List Bool) → BytesOf (c .asks)
+      → Good start (leftRough s c bytes) × Step start s (guestByte s 0) c (leftRough s c bytes) (guestByte (leftRough s c bytes) 0)
   unfolding leftRough ends
-  step c bytes sm =
+  step b c bytes sm =
       let p = planOf s (c .asks) in
       let t = afterRough p (c .allowance) bytes s in
       let w : Result (c .asks) (outcome p (c .allowance)) (storesCount (planUnits p)) t = result (c .asks) (c .allowance) bytes p (plan-fine s (fs start s k) (own start s k) (k .judged) (c .asks) sm) in
-      let z : SameDisk (diskSize s) (rd (geo s) (code s) s) (guestByte s) = next-seen start s k s (own start s k) in (
-        next-good start s k t (w .kept),
+      let z : SameDisk (diskSize s) (rd (geo s) (code s) s 0) (guestByte s 0) = next-seen start s k s (own start s k) in (
+        next-good start s k t (w .kept) (w .shots),
         record {
           fed = rw (← k .one-size, ← k .one-C)
               (fed-same (diskSize s) _ _ _ _ _ _ z (finished-same (clusterSize s) (diskSize s) (c .asks) _ _ z) (next-seen start s k t (w .kept)) _ _ (w .fed));
-          agrees = agrees start t (next-good start s k t (w .kept));
-          mended = by-repair (c .asks) _ t (w .kept) (w .exact);
+          agrees = agrees start t (next-good start s k t (w .kept) (w .shots)) b;
+          mended = by-repair (c .asks) _ t (w .kept) (w .shots) (w .exact);
         },
       )
 
-all : (start s : List ℕ) → Good start s → (cs : List Call) → AllBytes cs → RoughHolds start s (guestByte s) cs
+all : (start s : List ℕ) → Good start start → Good start s → (cs : List Call) → AllBytes cs → RoughHolds start s (guestByte s 0) cs
 unfolding RoughHolds AllBytes
-all start s k [] sm = tt
-all start s k (c ∷ cs) sm = λ bytes.
-    let r = step start s k c bytes (sm .0) in
-    (guestByte (leftRough s c bytes), r .1, all start (leftRough s c bytes) (r .0) cs (sm .1))
+all start s b k [] sm = tt
+all start s b k (c ∷ cs) sm = λ bytes.
+    let r = step start s k b c bytes (sm .0) in
+    (guestByte (leftRough s c bytes) 0, r .1, all start (leftRough s c bytes) b (r .0) cs (sm .1))
 
 -- a series of smooth cuts is one of rough cuts, no byte chosen at any of them
 smooth : (start s : List ℕ) (disk : ℕ → ℕ) (cs : List Call) → RoughHolds start s disk cs → Holds start s disk cs
@@ -182,19 +255,19 @@ smooth start s disk (c ∷ cs) h =
     (r .0, subst (λ (t : List ℕ). Step start s disk c t (r .0)) e (r .1), smooth start (left s c) (r .0) cs (subst (λ (t : List ℕ). RoughHolds start t (r .0) cs) e (r .2)))
 
 -- a healthy check is one of an accepted image
-healthy-check : (s : List ℕ) → Healthy (check s (clusters s)) → (judge s ≡ 0) × Healthy (verdict s)
+healthy-check : (s : List ℕ) → Healthy (check s (2 * clusters s)) → (judge s ≡ 0) × Healthy (verdict s)
 unfolding check Healthy
 healthy-check s h = go (judge s) h
   where
-    go : (j : ℕ) → Healthy (unless j NotChecked (if ltb (clusters s) (clusters s) then NotChecked 15 else verdict s)) → (j ≡ 0) × Healthy (verdict s)
+    go : (j : ℕ) → Healthy (unless j NotChecked (if ltb (2 * clusters s) (2 * clusters s) then NotChecked 15 else verdict s)) → (j ≡ 0) × Healthy (verdict s)
     go (suc j) h = absurd h
-    go zero h = (refl, subst Healthy (if-no (ltb (clusters s) (clusters s)) (NotChecked 15) (verdict s) (le-ltb (clusters s) (clusters s) (le-refl (clusters s)))) h)
+    go zero h = (refl, subst Healthy (if-no (ltb (2 * clusters s) (2 * clusters s)) (NotChecked 15) (verdict s) (le-ltb (2 * clusters s) (2 * clusters s) (le-refl (2 * clusters s)))) h)
 
 pub rough3 : RoughDemand3
 rough3 s by h calls sm =
     let e = healthy-check s h in
-    let k : Good s s = record { judged = e .0; bytes = by; sound = healthy-sound s (facts s (e .0)) by (e .1); one-size = refl; one-C = refl; one-N = refl; one-length = refl } in
-    (agrees s s k, all s s k calls sm)
+    let k : Good s s = record { judged = e .0; bytes = by; sound = healthy-sound s (facts s (e .0)) by (e .1); one-size = refl; one-C = refl; one-N = refl; one-length = refl; one-roots = refl; one-reach = λ t l. refl; shots = λ n y l h. refl } in
+    (agrees s s k k, all s s k k calls sm)
 
 pub demand3 : Demand3
-demand3 s by h calls sm = let r = rough3 s by h calls sm in (r .0, smooth s s (guestByte s) calls (r .1))
+demand3 s by h calls sm = let r = rough3 s by h calls sm in (r .0, smooth s s (guestByte s 0) calls (r .1))

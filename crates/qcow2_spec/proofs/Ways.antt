@@ -6,31 +6,32 @@ use mathlib.Core.Path.{_≡_, refl, sym, ap, _∙_, subst}
 use mathlib.Core.Logic.{_≢_}
 use mathlib.Core.Bool.{Bool, true, false, not, _&&_, _||_}
 use mathlib.Core.List.{List}
-use lib.Dec.{ltb, eqb}
+use lib.Dec.{leb, ltb, eqb}
 use lib.ListN.{length, getD}
-use borrow.Author.Tests.{ltb-false, eqb-true, eqb-false, not-false}
+use borrow.Author.Tests.{ltb-false, leb-false, eqb-true, eqb-false, ne-eqb, not-false}
 use Rattle.cuts.proofs.Cell.{mem}
-use Rattle.cuts.proofs.Meta.{Geo, Codec, l1, l2, tab, dat, Sound, dat-none, dat-some}
+use Rattle.cuts.proofs.Meta.{Geo, Codec, l1, l2, tab, dat, refsOf, Sound, dat-none, dat-some}
 use Rattle.cuts.proofs.Step.{gread, gread-none}
 use Rattle.cuts.proofs.Write.{gread-shown, gread-marked}
 use Rattle.choice.specs.Pick.{each}
 use Rattle.endian.specs.Big.{be64, part}
-use Rattle.qcow2_spec.specs.Header.{version, clusterSize, diskSize, l1Size, perTable, judge}
-use Rattle.qcow2_spec.specs.Entries.{place, goodL1, goodL2, compressed, zeroMark}
+use Rattle.qcow2_spec.specs.Header.{mostL1, version, clusterSize, perTable, roots, rootSize, judge}
+use Rattle.qcow2_spec.specs.Entries.{place, alone, goodL1, goodL2, common, compressed, zeroMark}
 use Rattle.qcow2_spec.specs.declared.Way.{Way}
 use Rattle.qcow2_spec.specs.declared.Way.the-variants.{Bad as bad, NoTable as noTable, Slot as slot}
-use Rattle.qcow2_spec.specs.Guest.{l1EntryAt, l1Entry, entryWay, l2Way, way, entryGives, wayGives, foundByte, located, guestByte, guestBytes, wayNumber, waysNumber, outside, touched, readNumber, readInto}
+use Rattle.qcow2_spec.specs.Guest.{l1EntryAt, l1Entry, entryWay, l2Way, way, entryGives, wayGives, foundByte, located, guestByte, guestBytes, wayNumber, waysNumber, reach, outside, touched, readNumber, readInto}
 use Rattle.qcow2_spec.specs.declared.Found.{Found}
+use Rattle.qcow2_spec.specs.Store.{ownSlot, ownWay}
 use Rattle.choice.proofs.Tests.{true-not-false, if-no, if-elim, and-true, or-false}
 use Rattle.qcow2_spec.proofs.Numbers.{part8}
-use Rattle.qcow2_spec.proofs.Facts.{Facts, c-pos, c-8}
-use Rattle.qcow2_spec.proofs.Geo.{geo, code, geo-ok}
+use Rattle.qcow2_spec.proofs.Facts.{Facts, c-pos, c-8, root-few, root-count}
+use Rattle.qcow2_spec.proofs.Geo.{nr, geo, code, geo-ok}
 use Rattle.qcow2_spec.proofs.Kept.{l1-at, l2-at}
 use Rattle.qcow2_spec.proofs.Refers.{placed1, placed2, div-back, div-none}
 
--- the machinery's guest byte
-abbrev pub rd : Geo → Codec → List ℕ → ℕ → ℕ
-rd g K s y = gread g K (mem (g .C) s) (y / g .C / g .E) (y / g .C % g .E) (y % g .C)
+-- the machinery's byte of the disk of L1 table t
+abbrev pub rd : Geo → Codec → List ℕ → (t y : ℕ) → ℕ
+rd g K s t y = gread g K (mem (g .C) s) (t * g .M + y / g .C / g .E) (y / g .C % g .E) (y % g .C)
 
 good-plain : (v C n e : ℕ) → goodL2 v C n e ≡ true → compressed e ≡ false
 unfolding goodL2
@@ -51,72 +52,24 @@ module _ (s : List ℕ) (f : Facts s) where
   abbrev m : ℕ → ℕ → ℕ
   m = mem (clusterSize s) s
 
-  -- the L2 entry of guest cluster g, good and found at a
-  pub record Slot (g a e : ℕ) : Type 0 where
-    pub table : tab (geo s) (code s) m (g / perTable s) ≢ 0
-    pub place-is : a ≡ tab (geo s) (code s) m (g / perTable s) * clusterSize s + 8 * (g % perTable s)
-    pub entry-is : e ≡ l2 (geo s) m (tab (geo s) (code s) m (g / perTable s)) (g % perTable s)
-    pub good : goodL2 (version s) (clusterSize s) (length s) e ≡ true
-
-  unfoldable pub WayIs : ℕ → Way → Type 0
-  WayIs g (bad n) = Unit {0}
-  WayIs g noTable = tab (geo s) (code s) m (g / perTable s) ≡ 0
-  WayIs g (slot a e) = Slot g a e
-
-  l1-own : (g : ℕ) → l1Entry s g ≡ l1 (geo s) m (g / perTable s)
-  unfolding l1Entry l1EntryAt
-  l1-own g = sym (l1-at s f s (g / perTable s))
-
-  tab-own : (g : ℕ) → tab (geo s) (code s) m (g / perTable s) ≡ place (l1Entry s g) / clusterSize s
-  unfolding tab
-  tab-own g = ap (λ (x : ℕ). place x / clusterSize s) (sym (l1-own g))
-
   e-pos : 0 < perTable s
   e-pos = geo-ok s f .epos
 
-  part-own : (g : ℕ) → goodL1 (clusterSize s) (length s) (l1Entry s g) ≡ true
-      → be64 (part s (place (l1Entry s g)) (clusterSize s)) (8 * (g % perTable s)) ≡ l2 (geo s) m (tab (geo s) (code s) m (g / perTable s)) (g % perTable s)
-  part-own g h =
-      part8 s (place (l1Entry s g)) (clusterSize s) (8 * (g % perTable s)) (omega (arith, c-8 s f, mod-lt g e-pos))
-      ∙ ap (λ (x : ℕ). be64 s (x + 8 * (g % perTable s))) (sym (div-back (clusterSize s) (place (l1Entry s g)) (placed1 s f (l1Entry s g) h .whole)) ∙ ap (λ (x : ℕ). x * clusterSize s) (sym (tab-own g)))
-      ∙ sym (l2-at s f s (tab (geo s) (code s) m (g / perTable s)) (g % perTable s))
+  -- the number of guest cluster g's L1 entry in L1 table t
+  abbrev pub entryNr : (t g : ℕ) → ℕ
+  entryNr t g = nr t (g / perTable s)
 
-  pub way-is : (g : ℕ) → WayIs g (way s g)
-  unfolding WayIs way l2Way entryWay
-  way-is g =
-      if-elim (WayIs g) (not (goodL1 (clusterSize s) (length s) (l1Entry s g))) _ _ (λ b. tt)
-      (λ b. if-elim (WayIs g) (eqb (place (l1Entry s g)) 0) _ _
-      (λ z. tab-own g ∙ ap (λ (x : ℕ). x / clusterSize s) (eqb-true _ _ z) ∙ zero-div (clusterSize s))
-      (λ z. if-elim (WayIs g) (compressed e) _ _ (λ c. tt)
-      (λ c. if-elim (WayIs g) (not (goodL2 (version s) (clusterSize s) (length s) e)) _ _ (λ d. tt)
-      (λ d. last (not-false _ b) (eqb-false _ _ z) (not-false _ d)))))
-    where
-      e : ℕ
-      e = be64 (part s (place (l1Entry s g)) (clusterSize s)) (8 * (g % perTable s))
+  -- the L2 entry of guest cluster g by L1 table t, good and found at a
+  pub record Slot (t g a e : ℕ) : Type 0 where
+    pub table : tab (geo s) (code s) m (entryNr t g) ≢ 0
+    pub place-is : a ≡ tab (geo s) (code s) m (entryNr t g) * clusterSize s + 8 * (g % perTable s)
+    pub entry-is : e ≡ l2 (geo s) m (tab (geo s) (code s) m (entryNr t g)) (g % perTable s)
+    pub good : goodL2 (version s) (clusterSize s) (length s) e ≡ true
 
-      last : goodL1 (clusterSize s) (length s) (l1Entry s g) ≡ true → place (l1Entry s g) ≢ 0 → goodL2 (version s) (clusterSize s) (length s) e ≡ true
-          → Slot g (place (l1Entry s g) + 8 * (g % perTable s)) e
-      last b z d =
-          let w = placed1 s f (l1Entry s g) b .whole in
-          record {
-            table = λ t. z (div-none (clusterSize s) (place (l1Entry s g)) w (sym (tab-own g) ∙ t));
-            place-is = ap (λ (x : ℕ). x + 8 * (g % perTable s)) (sym (div-back (clusterSize s) (place (l1Entry s g)) w) ∙ ap (λ (x : ℕ). x * clusterSize s) (sym (tab-own g)));
-            entry-is = part-own g b;
-            good = d;
-          }
-
-  -- what a good entry names
-  pub dat-own : (g a e : ℕ) → Slot g a e → dat (geo s) (code s) m (g / perTable s) (g % perTable s) ≡ place e / clusterSize s
-  dat-own g a e h = dat-some (geo s) (code s) m (g / perTable s) (g % perTable s) (h .table) ∙ ap (λ (x : ℕ). place x / clusterSize s) (sym (h .entry-is))
-
-  pub dat-place : (g a e : ℕ) → Slot g a e → dat (geo s) (code s) m (g / perTable s) (g % perTable s) * clusterSize s ≡ place e
-  dat-place g a e h = ap (λ (x : ℕ). x * clusterSize s) (dat-own g a e h) ∙ div-back (clusterSize s) (place e) (placed2 s f e (h .good) .whole)
-
-  pub dat-zero : (g a e : ℕ) → Slot g a e → place e ≡ 0 → dat (geo s) (code s) m (g / perTable s) (g % perTable s) ≡ 0
-  dat-zero g a e h z = dat-own g a e h ∙ ap (λ (x : ℕ). x / clusterSize s) z ∙ zero-div (clusterSize s)
-
-  pub dat-some-own : (g a e : ℕ) → Slot g a e → place e ≢ 0 → dat (geo s) (code s) m (g / perTable s) (g % perTable s) ≢ 0
-  dat-some-own g a e h d z = d (div-none (clusterSize s) (place e) (placed2 s f e (h .good) .whole) (sym (dat-own g a e h) ∙ z))
+  unfoldable pub WayIs : (t g : ℕ) → Way → Type 0
+  WayIs t g (bad n) = Unit {0}
+  WayIs t g noTable = tab (geo s) (code s) m (entryNr t g) ≡ 0
+  WayIs t g (slot a e) = Slot t g a e
 
   unfoldable Open : Way → Type 0
   Open (bad k) = ⊥
@@ -129,39 +82,100 @@ module _ (s : List ℕ) (f : Facts s) where
   open-number noTable h = refl
   open-number (slot a e) h = refl
 
-  way-open : Sound (geo s) (code s) m → (g : ℕ) → g / perTable s < l1Size s → Open (way s g)
-  unfolding Open way l2Way entryWay
-  way-open k g l =
-      subst Open (sym (if-no (not (goodL1 (clusterSize s) (length s) (l1Entry s g))) _ _ (ap not own)))
-      (if-elim Open (eqb (place (l1Entry s g)) 0) _ _ (λ z. tt)
-      (λ z. subst Open (sym (if-no (compressed e) _ _ (good-plain (version s) (clusterSize s) (length s) e (good (eqb-false _ _ z)))))
-      (subst Open (sym (if-no (not (goodL2 (version s) (clusterSize s) (length s) e)) _ _ (ap not (good (eqb-false _ _ z))))) tt)))
-    where
-      e : ℕ
-      e = be64 (part s (place (l1Entry s g)) (clusterSize s)) (8 * (g % perTable s))
+  -- guest cluster g in reach of L1 table t
+  module _ (t : ℕ) (ht : t < roots s) (g : ℕ) (hg : g / perTable s < rootSize s t) where
+    pub l1-own : l1Entry s t g ≡ l1 (geo s) m (entryNr t g)
+    unfolding l1Entry l1EntryAt
+    l1-own = sym (l1-at s f s t (g / perTable s) ht hg)
 
-      own : goodL1 (clusterSize s) (length s) (l1Entry s g) ≡ true
-      own = rw (l1-own g) (k .goods1 (g / perTable s) l)
+    pub tab-own : tab (geo s) (code s) m (entryNr t g) ≡ place (l1Entry s t g) / clusterSize s
+    unfolding tab
+    tab-own = ap (λ (x : ℕ). place x / clusterSize s) (sym l1-own)
 
-      good : place (l1Entry s g) ≢ 0 → goodL2 (version s) (clusterSize s) (length s) e ≡ true
-      good d =
-          rw (part-own g own) (k .goods2 (g / perTable s) (g % perTable s) l (mod-lt g e-pos)
-          (λ z. d (div-none (clusterSize s) (place (l1Entry s g)) (placed1 s f (l1Entry s g) own .whole) (sym (tab-own g) ∙ z))))
+    part-own : goodL1 (clusterSize s) (length s) (l1Entry s t g) ≡ true
+        → be64 (part s (place (l1Entry s t g)) (clusterSize s)) (8 * (g % perTable s)) ≡ l2 (geo s) m (tab (geo s) (code s) m (entryNr t g)) (g % perTable s)
+    part-own h =
+        part8 s (place (l1Entry s t g)) (clusterSize s) (8 * (g % perTable s)) (omega (arith, c-8 s f, mod-lt g e-pos))
+        ∙ ap (λ (x : ℕ). be64 s (x + 8 * (g % perTable s))) (sym (div-back (clusterSize s) (place (l1Entry s t g)) (placed1 s f (l1Entry s t g) h .whole)) ∙ ap (λ (x : ℕ). x * clusterSize s) (sym tab-own))
+        ∙ sym (l2-at s f s (tab (geo s) (code s) m (entryNr t g)) (g % perTable s))
 
-  byte-gives : (g o : ℕ) (w : Way) → WayIs g w → Open w → foundByte s (wayGives w o) ≡ gread (geo s) (code s) m (g / perTable s) (g % perTable s) o
+    pub way-is : WayIs t g (way s t g)
+    unfolding WayIs way l2Way entryWay
+    way-is =
+        if-elim (WayIs t g) (not (goodL1 (clusterSize s) (length s) (l1Entry s t g))) _ _ (λ b. tt)
+        (λ b. if-elim (WayIs t g) (eqb (place (l1Entry s t g)) 0) _ _
+        (λ z. tab-own ∙ ap (λ (x : ℕ). x / clusterSize s) (eqb-true _ _ z) ∙ zero-div (clusterSize s))
+        (λ z. if-elim (WayIs t g) (compressed e) _ _ (λ c. tt)
+        (λ c. if-elim (WayIs t g) (not (goodL2 (version s) (clusterSize s) (length s) e)) _ _ (λ d. tt)
+        (λ d. last (not-false _ b) (eqb-false _ _ z) (not-false _ d)))))
+      where
+        e : ℕ
+        e = be64 (part s (place (l1Entry s t g)) (clusterSize s)) (8 * (g % perTable s))
+
+        last : goodL1 (clusterSize s) (length s) (l1Entry s t g) ≡ true → place (l1Entry s t g) ≢ 0 → goodL2 (version s) (clusterSize s) (length s) e ≡ true
+            → Slot t g (place (l1Entry s t g) + 8 * (g % perTable s)) e
+        last b z d =
+            let w = placed1 s f (l1Entry s t g) b .whole in
+            record {
+              table = λ y. z (div-none (clusterSize s) (place (l1Entry s t g)) w (sym tab-own ∙ y));
+              place-is = ap (λ (x : ℕ). x + 8 * (g % perTable s)) (sym (div-back (clusterSize s) (place (l1Entry s t g)) w) ∙ ap (λ (x : ℕ). x * clusterSize s) (sym tab-own));
+              entry-is = part-own b;
+              good = d;
+            }
+
+    pub nr-in : entryNr t g < roots s * mostL1
+    nr-in = omega (arith, root-few s f t ht)
+
+    own-good : Sound (geo s) (code s) m → goodL1 (clusterSize s) (length s) (l1Entry s t g) ≡ true
+    own-good k = rw l1-own (k .goods1 (entryNr t g) nr-in)
+
+    way-open : Sound (geo s) (code s) m → Open (way s t g)
+    unfolding Open way l2Way entryWay
+    way-open k =
+        subst Open (sym (if-no (not (goodL1 (clusterSize s) (length s) (l1Entry s t g))) _ _ (ap not own)))
+        (if-elim Open (eqb (place (l1Entry s t g)) 0) _ _ (λ z. tt)
+        (λ z. subst Open (sym (if-no (compressed e) _ _ (good-plain (version s) (clusterSize s) (length s) e (good (eqb-false _ _ z)))))
+        (subst Open (sym (if-no (not (goodL2 (version s) (clusterSize s) (length s) e)) _ _ (ap not (good (eqb-false _ _ z))))) tt)))
+      where
+        e : ℕ
+        e = be64 (part s (place (l1Entry s t g)) (clusterSize s)) (8 * (g % perTable s))
+
+        own : goodL1 (clusterSize s) (length s) (l1Entry s t g) ≡ true
+        own = own-good k
+
+        good : place (l1Entry s t g) ≢ 0 → goodL2 (version s) (clusterSize s) (length s) e ≡ true
+        good d =
+            rw (part-own own) (k .goods2 (entryNr t g) (g % perTable s) nr-in (mod-lt g e-pos)
+            (λ z. d (div-none (clusterSize s) (place (l1Entry s t g)) (placed1 s f (l1Entry s t g) own .whole) (sym tab-own ∙ z))))
+
+  -- what a good entry names
+  module _ (t g a e : ℕ) (h : Slot t g a e) where
+    pub dat-own : dat (geo s) (code s) m (entryNr t g) (g % perTable s) ≡ place e / clusterSize s
+    dat-own = dat-some (geo s) (code s) m (entryNr t g) (g % perTable s) (h .table) ∙ ap (λ (x : ℕ). place x / clusterSize s) (sym (h .entry-is))
+
+    pub dat-place : dat (geo s) (code s) m (entryNr t g) (g % perTable s) * clusterSize s ≡ place e
+    dat-place = ap (λ (x : ℕ). x * clusterSize s) dat-own ∙ div-back (clusterSize s) (place e) (placed2 s f e (h .good) .whole)
+
+    pub dat-zero : place e ≡ 0 → dat (geo s) (code s) m (entryNr t g) (g % perTable s) ≡ 0
+    dat-zero z = dat-own ∙ ap (λ (x : ℕ). x / clusterSize s) z ∙ zero-div (clusterSize s)
+
+    pub dat-some-own : place e ≢ 0 → dat (geo s) (code s) m (entryNr t g) (g % perTable s) ≢ 0
+    dat-some-own d z = d (div-none (clusterSize s) (place e) (placed2 s f e (h .good) .whole) (sym dat-own ∙ z))
+
+  byte-gives : (t g o : ℕ) (w : Way) → WayIs t g w → Open w → foundByte s (wayGives w o) ≡ gread (geo s) (code s) m (entryNr t g) (g % perTable s) o
   unfolding WayIs Open foundByte wayGives entryGives zeroMark
-  byte-gives g o (bad k) h n = absurd n
-  byte-gives g o noTable h n = sym (gread-none (geo s) (code s) m (g / perTable s) (g % perTable s) o (dat-none (geo s) (code s) m (g / perTable s) (g % perTable s) h))
-  byte-gives g o (slot a e) h n =
+  byte-gives t g o (bad k) h n = absurd n
+  byte-gives t g o noTable h n = sym (gread-none (geo s) (code s) m (entryNr t g) (g % perTable s) o (dat-none (geo s) (code s) m (entryNr t g) (g % perTable s) h))
+  byte-gives t g o (slot a e) h n =
       if-elim (λ (x : Found). foundByte s x ≡ gread (geo s) (code s) m i j o) (eqb (e % 2) 1) _ _
       (λ z. sym (gread-marked (geo s) (code s) m i j o (λ y. omega (arith, eqb-true (e % 2) 1 z, flag, y))))
       (λ z. if-elim (λ (x : Found). foundByte s x ≡ gread (geo s) (code s) m i j o) (eqb (place e) 0) _ _
-      (λ p. sym (gread-none (geo s) (code s) m i j o (dat-zero g a e h (eqb-true _ _ p))))
-      (λ p. sym (gread-shown (geo s) (code s) m i j o (dat-some-own g a e h (eqb-false _ _ p)) (sym flag ∙ even (eqb-false _ _ z))
-      ∙ ap (λ (x : ℕ). getD s (x + o) 0) (dat-place g a e h))))
+      (λ p. sym (gread-none (geo s) (code s) m i j o (dat-zero t g a e h (eqb-true _ _ p))))
+      (λ p. sym (gread-shown (geo s) (code s) m i j o (dat-some-own t g a e h (eqb-false _ _ p)) (sym flag ∙ even (eqb-false _ _ z))
+      ∙ ap (λ (x : ℕ). getD s (x + o) 0) (dat-place t g a e h))))
     where
       i : ℕ
-      i = g / perTable s
+      i = entryNr t g
 
       j : ℕ
       j = g % perTable s
@@ -172,38 +186,105 @@ module _ (s : List ℕ) (f : Facts s) where
       even : e % 2 ≢ 1 → e % 2 ≡ 0
       even d = omega arith
 
-  pub in-l1 : (y : ℕ) → y < diskSize s → y / clusterSize s / perTable s < l1Size s
-  in-l1 y l = div-lt-iff-lt-mul e-pos .1 (div-lt-iff-lt-mul (c-pos s f) .1 (omega (arith, f .reach)))
+  -- ---- how far an L1 table reaches
+  pub reach-in : (t : ℕ) → reach s t ≤ rootSize s t * perTable s * clusterSize s
+  unfolding reach rootSize
+  reach-in zero = f .reach
+  reach-in (suc k) = le-refl _
 
-  pub guest-rd : Sound (geo s) (code s) m → (y : ℕ) → y < diskSize s → guestByte s y ≡ rd (geo s) (code s) s y
+  pub in-root : (t y : ℕ) → y < reach s t → y / clusterSize s / perTable s < rootSize s t
+  in-root t y l = div-lt-iff-lt-mul e-pos .1 (div-lt-iff-lt-mul (c-pos s f) .1 (omega (arith, reach-in t)))
+
+  pub guest-rd : Sound (geo s) (code s) m → (t : ℕ) → t < roots s → (y : ℕ) → y < reach s t → guestByte s t y ≡ rd (geo s) (code s) s t y
   unfolding guestByte located
-  guest-rd k y l = byte-gives (y / clusterSize s) (y % clusterSize s) (way s (y / clusterSize s)) (way-is (y / clusterSize s)) (way-open k (y / clusterSize s) (in-l1 y l))
+  guest-rd k t h y l =
+      byte-gives t (y / clusterSize s) (y % clusterSize s) (way s t (y / clusterSize s)) (way-is t h (y / clusterSize s) (in-root t y l)) (way-open t h (y / clusterSize s) (in-root t y l) k)
 
   -- ---- reads
-  ways-open : (k g : ℕ) → ((y : ℕ) → g ≤ y → y < g + k → wayNumber (way s y) ≡ 0) → waysNumber s g k ≡ 0
+  ways-open : (t k g : ℕ) → ((y : ℕ) → g ≤ y → y < g + k → wayNumber (way s t y) ≡ 0) → waysNumber s t g k ≡ 0
   unfolding waysNumber
-  ways-open zero g h = refl
-  ways-open (suc k) g h = rw (h g (le-refl g) (omega arith), ways-open k (suc g) (λ y l n. h y (omega arith) (omega arith)))
+  ways-open t zero g h = refl
+  ways-open t (suc k) g h = rw (h g (le-refl g) (omega arith), ways-open t k (suc g) (λ y l n. h y (omega arith) (omega arith)))
 
-  touched-in : (x len y : ℕ) → x + len ≤ diskSize s → x / clusterSize s ≤ y → y < x / clusterSize s + touched (clusterSize s) x len → y / perTable s < l1Size s
+  touched-in : (t x len y : ℕ) → x + len ≤ reach s t → x / clusterSize s ≤ y → y < x / clusterSize s + touched (clusterSize s) x len → y / perTable s < rootSize s t
   unfolding touched
-  touched-in x zero y h l n = absurd (omega arith)
-  touched-in x (suc k) y h l n =
+  touched-in t x zero y h l n = absurd (omega arith)
+  touched-in t x (suc k) y h l n =
       div-lt-iff-lt-mul e-pos .1 (omega (arith, top))
     where
-      top : (x + k) / clusterSize s < l1Size s * perTable s
-      top = div-lt-iff-lt-mul (c-pos s f) .1 (omega (arith, f .reach))
+      top : (x + k) / clusterSize s < rootSize s t * perTable s
+      top = div-lt-iff-lt-mul (c-pos s f) .1 (omega (arith, reach-in t))
 
-  pub inside : (x len : ℕ) → outside s x len ≡ false → x + len ≤ diskSize s
+  pub inside : (t x len : ℕ) → outside s t x len ≡ false → (t < roots s) × (x + len ≤ reach s t)
   unfolding outside
-  inside x len h = let p = or-false (ltb (diskSize s) x) _ h in omega (arith, ltb-false (diskSize s) x (p .0), ltb-false (diskSize s - x) len (p .1))
+  inside t x len h =
+      let p = or-false (leb (roots s) t || ltb (reach s t) x) _ h in
+      let q = or-false (leb (roots s) t) _ (p .0) in
+      (leb-false (roots s) t (q .0), omega (arith, ltb-false (reach s t) x (q .1), ltb-false (reach s t - x) len (p .1)))
 
-  pub accepted : judge s ≡ 0 → Sound (geo s) (code s) m → (x len : ℕ) → outside s x len ≡ false → readNumber s x len ≡ 0
+  pub accepted : judge s ≡ 0 → Sound (geo s) (code s) m → (t x len : ℕ) → outside s t x len ≡ false → readNumber s t x len ≡ 0
   unfolding readNumber
-  accepted e k x len h =
-      rw (e, h) (ways-open (touched (clusterSize s) x len) (x / clusterSize s)
-      (λ y l n. open-number (way s y) (way-open k y (touched-in x len y (inside x len h) l n))))
+  accepted e k t x len h =
+      rw (e, h) (ways-open t (touched (clusterSize s) x len) (x / clusterSize s)
+      (λ y l n. open-number (way s t y) (way-open t (inside t x len h .0) y (touched-in t x len y (inside t x len h .1) l n) k)))
 
-  pub read-whole : judge s ≡ 0 → Sound (geo s) (code s) m → (x : ℕ) (out : List ℕ) → outside s x (length out) ≡ false → readInto s x out ≡ each (guestByte s) x (length out)
+  pub read-whole : judge s ≡ 0 → Sound (geo s) (code s) m → (t x : ℕ) (out : List ℕ) → outside s t x (length out) ≡ false → readInto s t x out ≡ each (guestByte s t) x (length out)
   unfolding readInto guestBytes
-  read-whole e k x out h = rw (accepted e k x (length out) h) refl
+  read-whole e k t x out h = rw (accepted e k t x (length out) h) refl
+
+  -- a read that is outside leaves its output
+  pub read-outside : judge s ≡ 0 → (t x : ℕ) (out : List ℕ) → outside s t x (length out) ≡ true → readInto s t x out ≡ out
+  unfolding readInto readNumber
+  read-outside e t x out h = rw (e, h) refl
+
+  -- ---- the way of a write or a discard: what it changes has one reference
+  common-not : (e : ℕ) → common e ≡ false → place e ≢ 0 → e / 2 ^ 63 ≡ 1
+  unfolding common alone
+  common-not e h d = eqb-true _ _ (not-false _ (rw (ne-eqb (place e) 0 d) at h))
+
+  pub record Own (g a e : ℕ) : Type 0 where
+    pub way-slot : Slot 0 g a e
+    pub lone : refsOf (geo s) (code s) m (tab (geo s) (code s) m (entryNr 0 g)) ≤ 1
+    pub lone-data : dat (geo s) (code s) m (entryNr 0 g) (g % perTable s) ≢ 0 → refsOf (geo s) (code s) m (dat (geo s) (code s) m (entryNr 0 g) (g % perTable s)) ≤ 1
+
+  unfoldable pub OwnIs : (g : ℕ) → Way → Type 0
+  OwnIs g (bad n) = Unit {0}
+  OwnIs g noTable = tab (geo s) (code s) m (entryNr 0 g) ≡ 0
+  OwnIs g (slot a e) = Own g a e
+
+  first-root : 0 < roots s
+  first-root = omega (arith, root-count s f)
+
+  pub first-nr : (g : ℕ) → g / perTable s < rootSize s 0 → entryNr 0 g < mostL1
+  first-nr g l = omega (arith, root-few s f 0 first-root)
+
+  pub own-way : Sound (geo s) (code s) m → (g : ℕ) → g / perTable s < rootSize s 0 → OwnIs g (ownWay s g)
+  unfolding ownWay ownSlot OwnIs WayIs
+  own-way k g l =
+      if-elim (OwnIs g) (goodL1 (clusterSize s) (length s) (l1Entry s 0 g) && common (l1Entry s 0 g)) _ _ (λ b. tt)
+      (λ b. pick (way s 0 g) (rw (own-good 0 first-root g l k) at b) (way-is 0 first-root g l))
+    where
+      i : ℕ
+      i = entryNr 0 g
+
+      j : ℕ
+      j = g % perTable s
+
+      iL : i < roots s * mostL1
+      iL = nr-in 0 first-root g l
+
+      iM : i < mostL1
+      iM = first-nr g l
+
+      pick : (w : Way) → common (l1Entry s 0 g) ≡ false → WayIs 0 g w → OwnIs g (ownSlot w)
+      pick (bad n) c h = tt
+      pick noTable c h = h
+      pick (slot a e) c h = if-elim (OwnIs g) (common e) _ _ (λ y. tt) (λ y. record {
+        way-slot = h;
+        lone = let p : place (l1Entry s 0 g) ≢ 0 = λ z. h .table (tab-own 0 first-root g l ∙ ap (λ (x : ℕ). x / clusterSize s) z ∙ zero-div (clusterSize s)) in
+            let q : l1 (geo s) m i / 2 ^ 63 ≡ 1 = rw (l1-own 0 first-root g l) at (common-not (l1Entry s 0 g) c p) in
+            omega (arith, k .mark1 i iL iM (h .table) .0 q);
+        lone-data = λ d. let p : place e ≢ 0 = λ z. d (dat-zero 0 g a e h z) in
+            let q : l2 (geo s) m (tab (geo s) (code s) m i) j / 2 ^ 63 ≡ 1 = rw (h .entry-is) at (common-not e y p) in
+            omega (arith, k .mark2 i j iL iM (mod-lt g e-pos) d .0 q);
+      })

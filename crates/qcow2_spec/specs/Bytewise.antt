@@ -1,14 +1,14 @@
--- A read byte by byte, by the translation of each of its bytes. `readNumber` goes by guest clusters and is refused as this is
--- (proofs/Bytewise.antt), and a lookup gives the same bytes (proofs/Lookup.antt).
+-- A read byte by byte, by where the tables have each of its bytes. `readNumber` goes by guest clusters and is refused as this is
+-- (proofs/Bytewise.antt), a translation is the read of one byte, and a lookup gives the same bytes (proofs/Lookup.antt).
 -- Assumes nothing.
 use Prim.Native.Nat.{ℕ, zero, suc, _+_}
 use mathlib.Core.Path.{_≡_}
-use mathlib.Core.List.{List}
-use lib.Dec.{ltb, eqb}
+use mathlib.Core.List.{List, [], _∷_}
+use lib.Dec.{leb, ltb, eqb}
 use lib.ListN.{length}
 use Rattle.choice.specs.Pick.{if_then_else_, unless, each}
-use Rattle.qcow2_spec.specs.Header.{diskSize, judge}
-use Rattle.qcow2_spec.specs.Guest.{translate, foundByte, readNumber, readInto, inPlace}
+use Rattle.qcow2_spec.specs.Header.{roots, judge}
+use Rattle.qcow2_spec.specs.Guest.{located, translate, foundByte, reach, readNumber, readInto, inPlace}
 use Rattle.qcow2_spec.specs.declared.Found.{Found}
 use Rattle.qcow2_spec.specs.declared.Found.the-variants.{Host, Zeros, Absent, Refused}
 
@@ -19,29 +19,32 @@ refusal Zeros = 0
 refusal Absent = 0
 refusal (Refused k) = k
 
--- the first refusal among the translations of the len bytes from x on, rising; 0 where none is refused
-unfoldable pub bytesNumber : List ℕ → (x len : ℕ) → ℕ
-bytesNumber s x zero = 0
-bytesNumber s x (suc l) = unless (refusal (translate s x)) (λ k. k) (bytesNumber s (suc x) l)
+-- the first refusal among the len bytes from x on of the disk of L1 table t, rising; 0 where none is refused
+unfoldable pub bytesNumber : List ℕ → (t x len : ℕ) → ℕ
+bytesNumber s t x zero = 0
+bytesNumber s t x (suc l) = unless (refusal (located s t x)) (λ k. k) (bytesNumber s t (suc x) l)
 
--- a read's number: the image's own, then 11 where the range runs past the size, then the first refusal of a byte
-unfoldable pub bytewise : List ℕ → (x len : ℕ) → ℕ
-bytewise s x len =
+-- a read's number: the image's own, then 11 where there is no such table or the range runs past what it reaches, then the first refusal of a byte
+unfoldable pub bytewise : List ℕ → (t x len : ℕ) → ℕ
+bytewise s t x len =
     unless (judge s) (λ k. k)
-    (if ltb (diskSize s) (x + len) then 11 else
-    bytesNumber s x len)
+    (if leb (roots s) t then 11 else
+    if ltb (reach s t) (x + len) then 11 else
+    bytesNumber s t x len)
 
--- what such a read leaves in its output: what the translation of each byte reads or, refused, what was there
-unfoldable pub bytewiseInto : List ℕ → (x : ℕ) → List ℕ → List ℕ
-bytewiseInto s x out = if eqb (bytewise s x (length out)) 0 then each (λ y. foundByte s (translate s y)) x (length out) else out
+-- what such a read leaves in its output: what each byte reads or, refused, what was there
+unfoldable pub bytewiseInto : List ℕ → (t x : ℕ) → List ℕ → List ℕ
+bytewiseInto s t x out = if eqb (bytewise s t x (length out)) 0 then each (λ y. foundByte s (located s t y)) x (length out) else out
 
--- the law: every read is refused, and fills its output, as its bytes say; and every translation is refused as the read of its byte is
+-- the law: every read is refused, and fills its output, as its bytes say; a translation is refused as the read of its byte is, and reads
+-- as that does
 abbrev pub Bytewise : Type 0
 Bytewise =
     (s : List ℕ) (x : ℕ)
-    → ((len : ℕ) → readNumber s x len ≡ bytewise s x len)
-    × ((out : List ℕ) → readInto s x out ≡ bytewiseInto s x out)
-    × (refusal (translate s x) ≡ readNumber s x 1)
+    → ((t len : ℕ) → readNumber s t x len ≡ bytewise s t x len)
+    × ((t : ℕ) (out : List ℕ) → readInto s t x out ≡ bytewiseInto s t x out)
+    × (refusal (translate s x) ≡ readNumber s 0 x 1)
+    × (readInto s 0 x (0 ∷ []) ≡ foundByte s (translate s x) ∷ [])
 
 -- the law: a lookup gives what the translation of each byte from x on reads
 abbrev pub Lookups : Type 0

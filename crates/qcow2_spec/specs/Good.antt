@@ -7,10 +7,12 @@ use mathlib.Core.Bool.{true}
 use Rattle.qcow2_spec.specs.Header.{mostLength}
 use Rattle.qcow2_spec.specs.Entries.{goodL1, goodL2}
 
--- e is bit 63 and the place of a whole cluster inside the image's n bytes, and nothing else
+-- e is the place of a whole cluster inside the image's n bytes, with bit 63 or without it, and nothing else
 pub record Names (C n e : ℕ) : Type 0 where
   pub at : ℕ
-  pub is : e ≡ 2 ^ 63 + at
+  pub top : ℕ
+  pub bit : top ≤ 1
+  pub is : e ≡ top * 2 ^ 63 + at
   pub some : 0 < at
   pub whole : at % C ≡ 0
   pub inside : at + C ≤ n

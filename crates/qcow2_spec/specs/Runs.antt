@@ -54,32 +54,32 @@ unfoldable pub sameFound : Found → Found → Bool
 sameFound a b = eqb (foundKind a) (foundKind b) && eqb (foundNumber a) (foundNumber b)
 
 -- byte x + i goes on alike from x
-unfoldable pub goesOn : List ℕ → (x i : ℕ) → Bool
-goesOn s x i = sameFound (located s (x + i)) (moved (located s x) i)
+unfoldable pub goesOn : List ℕ → (t x i : ℕ) → Bool
+goesOn s t x i = sameFound (located s t (x + i)) (moved (located s t x) i)
 
 -- how many of the len bytes from x on go on alike
-unfoldable pub runLength : List ℕ → (x len : ℕ) → ℕ
-runLength s x len = first (λ i. not (goesOn s x i)) 0 len
+unfoldable pub runLength : List ℕ → (t x len : ℕ) → ℕ
+runLength s t x len = first (λ i. not (goesOn s t x i)) 0 len
 
 -- a run as three numbers: its kind, its host offset and its length
 unfoldable pub runRow : Found → ℕ → List ℕ
 runRow f r = foundCode f ∷ foundHost f ∷ r ∷ []
 
 -- the runs of the len bytes from x on, one after the other, at most k of them
-unfoldable pub runRows : List ℕ → (x len k : ℕ) → List ℕ
-runRows s x len zero = []
-runRows s x len (suc k) =
+unfoldable pub runRows : List ℕ → (t x len k : ℕ) → List ℕ
+runRows s t x len zero = []
+runRows s t x len (suc k) =
     if eqb len 0 then [] else
-    runRow (located s x) (runLength s x len) ++ runRows s (x + runLength s x len) (len - runLength s x len) k
+    runRow (located s t x) (runLength s t x len) ++ runRows s t (x + runLength s t x len) (len - runLength s t x len) k
 
 -- the number of a listing; 0 where it is accepted. A bad entry is a run of its own and no refusal
-unfoldable pub runsNumber : List ℕ → (x len : ℕ) → ℕ
-runsNumber s x len = unless (judge s) (λ k. k) (if outside s x len then 11 else 0)
+unfoldable pub runsNumber : List ℕ → (t x len : ℕ) → ℕ
+runsNumber s t x len = unless (judge s) (λ k. k) (if outside s t x len then 11 else 0)
 
 -- the answer: a number, or how many runs were listed
-unfoldable pub listRuns : List ℕ → (x len k : ℕ) → Listed
-listRuns s x len k = unless (runsNumber s x len) NotListed (Rows (length (runRows s x len k) / 3))
+unfoldable pub listRuns : List ℕ → (t x len k : ℕ) → Listed
+listRuns s t x len k = unless (runsNumber s t x len) NotListed (Rows (length (runRows s t x len k) / 3))
 
 -- what a listing leaves in its output, three numbers a run: the runs, then what was there; refused: nothing changes
-unfoldable pub runsInto : List ℕ → (x len : ℕ) → List ℕ → List ℕ
-runsInto s x len out = if eqb (runsNumber s x len) 0 then splice out 0 (runRows s x len (length out / 3)) else out
+unfoldable pub runsInto : List ℕ → (t x len : ℕ) → List ℕ → List ℕ
+runsInto s t x len out = if eqb (runsNumber s t x len) 0 then splice out 0 (runRows s t x len (length out / 3)) else out

@@ -1,7 +1,7 @@
--- Demand 3: what holds of every series of calls. Paper 01, "The plain disk and the series"; for rough cuts paper 02, T-09.
+-- Demand 3: what holds of every series of calls. Paper 01, "The plain disk and the series"; paper 02, T-11 and, for rough cuts, T-09.
 -- Both are proved in proofs/Series.antt.
 -- Assumes nothing.
-use Prim.Native.Nat.{ℕ, _+_, _≤_, _<_}
+use Prim.Native.Nat.{ℕ, suc, _+_, _*_, _≤_, _<_}
 use mathlib.Core.Path.{_≡_}
 use mathlib.Core.Logic.{_↔_}
 use mathlib.Core.Bool.{Bool}
@@ -12,13 +12,13 @@ use Rattle.units.specs.Plan.{planUnits, storesCount, outcome, after}
 use Rattle.units.specs.declared.Outcome.{Outcome}
 use Rattle.units.specs.declared.Outcome.the-variants.{Finished, Stopped, Refused}
 use Rattle.tally.specs.Tally.{occurrences}
-use Rattle.qcow2_spec.specs.Header.{clusterSize, clusters, diskSize}
+use Rattle.qcow2_spec.specs.Header.{clusterSize, clusters, diskSize, roots}
 use Rattle.qcow2_spec.specs.Counts.{countOf}
-use Rattle.qcow2_spec.specs.Guest.{guestByte, readNumber, readInto}
+use Rattle.qcow2_spec.specs.Guest.{guestByte, reach, readNumber, readInto}
 use Rattle.qcow2_spec.specs.References.{references}
 use Rattle.qcow2_spec.specs.Check.{check}
 use Rattle.qcow2_spec.specs.declared.Verdict.{Verdict}
-use Rattle.qcow2_spec.specs.declared.Verdict.the-variants.{Sound, Leaks, BadL1, BadL2, Shared, Short, Refused as NotChecked}
+use Rattle.qcow2_spec.specs.declared.Verdict.the-variants.{Sound, Leaks, BadL1, BadL2, Shared, Short, MarkL1, MarkL2, Refused as NotChecked}
 use Rattle.qcow2_spec.specs.Disk.{Request, write, discard, repair, planOf, finished, Fed}
 use Rattle.qcow2_spec.specs.Rough.{afterRough}
 
@@ -26,25 +26,29 @@ use Rattle.qcow2_spec.specs.Rough.{afterRough}
 unfoldable pub Healthy : Verdict → Type 0
 Healthy Sound = Unit {0}
 Healthy (Leaks m) = Unit {0}
-Healthy (BadL1 i) = ⊥
-Healthy (BadL2 i j) = ⊥
+Healthy (BadL1 t i) = ⊥
+Healthy (BadL2 t i j) = ⊥
 Healthy (Shared k) = ⊥
 Healthy (Short k) = ⊥
+Healthy (MarkL1 i) = ⊥
+Healthy (MarkL2 i j) = ⊥
 Healthy (NotChecked k) = ⊥
 
--- a read of s that does not run past the size is accepted and gives the disk's bytes; a check with scratch enough says sound or leaking;
+-- a read of s, through the active L1 table or a snapshot's, that does not run past what it reaches is accepted; it gives the disk's bytes,
+-- or those that the snapshot had in the series' first image; a check with scratch enough says sound or leaking;
 -- the disk's size, the number of clusters and the image's length are still those of the series' first image
 pub record Agrees (start s : List ℕ) (disk : ℕ → ℕ) : Type 0 where
-  pub accepted : (x len : ℕ) → x + len ≤ diskSize start → readNumber s x len ≡ 0
-  pub reads : (x : ℕ) (out : List ℕ) → x + length out ≤ diskSize start → readInto s x out ≡ each disk x (length out)
-  pub checks : (scratch : ℕ) → clusters start ≤ scratch → Healthy (check s scratch)
+  pub accepted : (t x len : ℕ) → t < roots start → x + len ≤ reach start t → readNumber s t x len ≡ 0
+  pub reads : (x : ℕ) (out : List ℕ) → x + length out ≤ diskSize start → readInto s 0 x out ≡ each disk x (length out)
+  pub kept : (k x : ℕ) (out : List ℕ) → readInto s (suc k) x out ≡ readInto start (suc k) x out
+  pub checks : (scratch : ℕ) → 2 * clusters start ≤ scratch → Healthy (check s scratch)
   pub same-size : diskSize s ≡ diskSize start
   pub same-clusters : clusters s ≡ clusters start
   pub same-length : length s ≡ length start
 
 -- a check says sound, and a stored count is 0 exactly where the cluster has no reference
 pub record Mended (start s : List ℕ) : Type 0 where
-  pub sound : (scratch : ℕ) → clusters start ≤ scratch → check s scratch ≡ Sound
+  pub sound : (scratch : ℕ) → 2 * clusters start ≤ scratch → check s scratch ≡ Sound
   pub free : (k : ℕ) → k < clusters start → (countOf s k ≡ 0) ↔ (occurrences k (references s) ≡ 0)
 
 -- s is mended if the call was a repair that finished
@@ -104,11 +108,11 @@ AllBytes (c ∷ cs) = BytesOf (c .asks) × AllBytes cs
 -- for every first image that is sound or leaking and every series of calls, before the first call and after each
 abbrev pub Demand3 : Type 0
 Demand3 =
-    (s : List ℕ) → Bytes s → Healthy (check s (clusters s)) → (calls : List Call) → AllBytes calls
-    → Agrees s s (guestByte s) × Holds s s (guestByte s) calls
+    (s : List ℕ) → Bytes s → Healthy (check s (2 * clusters s)) → (calls : List Call) → AllBytes calls
+    → Agrees s s (guestByte s 0) × Holds s s (guestByte s 0) calls
 
 -- the same for every series of calls that are cut smoothly, roughly or not at all
 abbrev pub RoughDemand3 : Type 0
 RoughDemand3 =
-    (s : List ℕ) → Bytes s → Healthy (check s (clusters s)) → (calls : List Call) → AllBytes calls
-    → Agrees s s (guestByte s) × RoughHolds s s (guestByte s) calls
+    (s : List ℕ) → Bytes s → Healthy (check s (2 * clusters s)) → (calls : List Call) → AllBytes calls
+    → Agrees s s (guestByte s 0) × RoughHolds s s (guestByte s 0) calls

@@ -1,1 +1,3 @@
 pub mod Tally
+pub mod Roles
+pub mod States

@@ -1,12 +1,16 @@
-// Counting references in a scratch of one byte for each cluster: 0, 1, or 2 for two or more; and stored counts against them.
+// Counting references in a scratch of one byte for each cluster: 0, 1, or 2 for two or more; or of two bytes, up to 65,535. And stored counts
+// against them.
 ghost use mathlib.Core.Path.{_≡_};
-ghost use Prim.Native.Nat.{_+_, _≤_, _<_, min, max};
+ghost use Prim.Native.Nat.{_+_, _*_, _≤_, _<_, min, max};
 ghost use lib.Dec.{ltb};
 ghost use lib.ListN.{length, replicate};
 ghost use Rattle.choice.specs.Pick.{all, first};
-ghost use Rattle.tally.specs.Tally.{bumped, bumpAll, run, twice};
+ghost use Rattle.tally.specs.Tally.{bumped, bumpAll, bumpedWide, bumpAllWide, run, twice};
 
 pub mod against;
+pub mod scans;
+pub mod visits;
+pub mod window;
 
 // A stored count against a figure: below it, equal, or above it.
 pub enum Sign {
@@ -39,7 +43,7 @@ pub fn clear(scratch: &mut [u8])
 // Counts one reference to cluster c.
 pub fn bump(scratch: &mut [u8], c: usize)
     requires { ⌜ c < length (now scratch) ⌝ }
-    ensures { λ _. ⌜ now (scratch .exit) ≡ bumped (now (scratch .entry)) c ⌝ }
+    ensures { λ _. ⌜ now (scratch .exit) ≡ bumped 2 (now (scratch .entry)) c ⌝ }
 {
     scratch[c] = more(scratch[c]);
 }
@@ -47,13 +51,29 @@ pub fn bump(scratch: &mut [u8], c: usize)
 // Counts one reference to each of the k clusters from i on.
 pub fn bump_run(scratch: &mut [u8], i: usize, k: usize)
     requires { ⌜ i + k ≤ length (now scratch) ⌝ }
-    ensures { λ _. ⌜ now (scratch .exit) ≡ bumpAll (run i k) (now (scratch .entry)) ⌝ }
+    ensures { λ _. ⌜ now (scratch .exit) ≡ bumpAll 2 (run i k) (now (scratch .entry)) ⌝ }
 {
     let mut j = 0;
     while j < k {
         bump(scratch, i + j);
         j += 1;
     }
+}
+
+// One reference more, of two bytes.
+pub(crate) fn more_wide(x: u16) -> u16
+    ensures { λ r. ⌜ r ≡ min 65535 (x + 1) ⌝ }
+{
+    if x < 65535 { x + 1 } else { 65535 }
+}
+
+// Counts one reference to cluster c in a scratch of two bytes for each cluster.
+pub fn bump_wide(scratch: &mut [u8], c: usize)
+    requires { ⌜ 2 * c + 2 ≤ length (now scratch) ⌝ }
+    ensures { λ _. ⌜ now (scratch .exit) ≡ bumpedWide (now (scratch .entry)) c ⌝ }
+{
+    let x = endian::load16(scratch, 2 * c);
+    endian::store16(scratch, 2 * c, more_wide(x));
 }
 
 fn greater(a: u8, b: u8) -> u8

@@ -19,7 +19,7 @@ use crate::report::{Failure, Report};
 pub fn open_usable<D: Disk>(image: ImageFile<D>) -> Result<(PathBuf, Ordered<D>), Failure> {
     let checked = check(&image)?;
     if !checked.verdict.is_usable() {
-        let (what, json) = findings::verdict(&checked.layout, &image.bytes, checked.verdict);
+        let (what, json) = checked.words(&image.bytes);
         let advice = findings::advice(&checked.layout, &image.bytes, checked.verdict);
         return Err(Failure::Damaged { what, json, advice: advice.into() });
     }

@@ -6,6 +6,7 @@ use crate::autoclear;
 use crate::damage::Damage;
 use crate::findings;
 use crate::image_file::ImageFile;
+use crate::json::Json;
 use crate::layout::Layout;
 use crate::report::{Failure, Report, DAMAGED, DONE, LEAKS};
 use crate::runs;
@@ -18,9 +19,16 @@ pub struct Checked {
     pub scratch: Vec<u8>,
 }
 
+impl Checked {
+    /// The verdict as text, and as members of a JSON object.
+    pub fn words(&self, image: &[u8]) -> (String, Vec<(&'static str, Json)>) {
+        findings::verdict(&self.layout, image, self.verdict, &self.scratch)
+    }
+}
+
 pub fn check<D>(image: &ImageFile<D>) -> Result<Checked, Failure> {
-    // Enough for any cluster size that is accepted.
-    let mut scratch = vec![0; image.bytes.len() / 512 + 1];
+    // Two bytes a cluster: enough for any cluster size that is accepted.
+    let mut scratch = vec![0; image.bytes.len() / 256];
     let verdict = qcow2_core::check(&image.bytes, &mut scratch);
     let refused = |number| image.refused(number, Request::Look);
     match (verdict, Layout::of(&image.bytes)) {
@@ -32,7 +40,7 @@ pub fn check<D>(image: &ImageFile<D>) -> Result<Checked, Failure> {
 
 pub fn run(image: &ImageFile) -> Result<Report, Failure> {
     let checked = check(image)?;
-    let (mut text, mut json) = findings::verdict(&checked.layout, &image.bytes, checked.verdict);
+    let (mut text, mut json) = checked.words(&image.bytes);
     if checked.verdict == Verdict::Sound {
         json.extend(Damage::default().members(&checked.layout));
         return Ok(Report { text: text + "\n", json, exit: DONE });

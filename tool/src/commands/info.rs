@@ -38,7 +38,7 @@ pub fn too_long(path: &Path) -> Result<Report, Failure> {
 
 fn accepted(bytes: &[u8], own: Own, checked: &Checked) -> Report {
     let layout = checked.layout;
-    let (verdict, members) = findings::verdict(&layout, bytes, checked.verdict);
+    let (verdict, members) = checked.words(bytes);
     let Facts { mut text, members: mut json } = facts(bytes, own);
     let free = layout.free(bytes);
     let used = layout.clusters - free;

@@ -7,6 +7,7 @@ mod info;
 mod map;
 mod read;
 pub mod repair;
+mod snapshot;
 pub mod write;
 
 use std::io::stdin;
@@ -42,18 +43,22 @@ fn access(options: &Options) -> Access {
 }
 
 fn answer(options: &Options, image: ImageFile) -> Result<Answer, Failure> {
-    let report = match options.command {
+    let report = match &options.command {
         Command::Map => return Ok(Answer::Long(Box::new(map::Map::of(image)?))),
-        Command::Read { offset, length } => {
+        &Command::Read { offset, length, snapshot: None } => {
             return Ok(Answer::Long(Box::new(read::Range::of(image, offset, length)?)));
+        }
+        Command::Read { offset, length, snapshot: Some(word) } => {
+            let kept = snapshot::Kept::of(image, word, *offset, *length)?;
+            return Ok(Answer::Long(Box::new(kept)));
         }
         Command::Info => info::run(image),
         Command::Check => check::run(&image),
-        Command::Repair { allowance, force } => repair::run(image, allowance, force),
-        Command::Write { offset, allowance } => {
+        &Command::Repair { allowance, force } => repair::run(image, allowance, force),
+        &Command::Write { offset, allowance } => {
             write::run(image, offset, &mut stdin().lock(), allowance)
         }
-        Command::Discard { offset, length, allowance } => {
+        &Command::Discard { offset, length, allowance } => {
             discard::run(image, offset, length, allowance)
         }
     };

@@ -51,18 +51,21 @@ impl Stream for Range {
     }
 
     fn json(&self, out: &mut Output) -> io::Result<u8> {
-        let mut digits = Vec::with_capacity(2 * FEW);
         out.write_all(b"\"")?;
-        self.each_part(&mut |part| {
-            part.chunks(FEW).try_for_each(|few| {
-                digits.clear();
-                few.iter().for_each(|byte| digits.extend_from_slice(&hex(*byte)));
-                out.write_all(&digits)
-            })
-        })?;
+        self.each_part(&mut |part| write_hex(out, part))?;
         out.write_all(b"\"")?;
         Ok(DONE)
     }
+}
+
+/// The bytes as hex digits.
+pub fn write_hex(out: &mut Output, bytes: &[u8]) -> io::Result<()> {
+    let mut digits = Vec::with_capacity(2 * FEW);
+    bytes.chunks(FEW).try_for_each(|few| {
+        digits.clear();
+        few.iter().for_each(|byte| digits.extend_from_slice(&hex(*byte)));
+        out.write_all(&digits)
+    })
 }
 
 fn hex(byte: u8) -> [u8; 2] {

@@ -4,6 +4,7 @@ use std::collections::HashSet;
 
 use super::{tail, Remedy, Subject};
 use crate::fields::{be64, Fields, MAX_IMAGE};
+use crate::snapshots;
 
 /// The refcount table of a file.
 struct Table<'a> {
@@ -91,11 +92,17 @@ impl<'a> Table<'a> {
     fn blocks_are_apart(&self) -> bool {
         let Fields { table_at, table_clusters, l1_at, l1_size, .. } = self.fields;
         let end = |at: u64, length: u64| at.saturating_add(length);
-        let table = table_at..end(table_at, u64::from(table_clusters) * self.cluster);
-        let l1 = l1_at..end(l1_at, 8 * u64::from(l1_size));
+        let l1 = |at, entries: u32| at..end(at, 8 * u64::from(entries));
+        let snapshots = snapshots::Table::of(self.subject.bytes, &self.fields);
+        let mut fixed = vec![
+            table_at..end(table_at, u64::from(table_clusters) * self.cluster),
+            l1(l1_at, l1_size),
+            self.fields.snapshots_at..snapshots.end,
+        ];
+        fixed.extend(snapshots.snapshots.iter().map(|one| l1(one.l1_at, one.l1_size)));
         let mut seen = HashSet::new();
         let mut blocks = self.entries().map(|entry| entry.1).filter(|&block| block != 0);
-        blocks.all(|block| !table.contains(&block) && !l1.contains(&block) && seen.insert(block))
+        blocks.all(|block| !fixed.iter().any(|it| it.contains(&block)) && seen.insert(block))
     }
 
     /// A block is named for clusters that the file does not have.

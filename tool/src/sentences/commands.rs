@@ -6,6 +6,9 @@ use std::path::Path;
 /// What an image that qemu makes anew is like, so that it is accepted.
 const NEW_OPTIONS: &str = "compat=0.10,cluster_size=65536";
 pub const NEW_CLUSTER: u64 = 65_536;
+/// How a snapshot is given up. It loses the snapshot's bytes, so that it is told
+/// in words, and not as a command to run.
+pub const DELETE: &str = "qemu-img snapshot -d";
 /// What stands before and after each command.
 pub const MARK: char = '\x60';
 

@@ -94,19 +94,15 @@ fn tables(subject: &Subject, fields: &Fields) -> Tables {
     match tail::disk_refers_past(subject.bytes, subject.length.next_multiple_of(cluster)) {
         None => Tables::NotSeen,
         Some(true) => Tables::CutShort,
-        Some(false) if has_bad(subject.bytes, fields) => Tables::Bad,
+        Some(false) if has_bad(subject.bytes) => Tables::Bad,
         Some(false) => Tables::Good,
     }
 }
 
-/// Entries that are bad to any reader. Those past the end are looked for before,
-/// and with snapshots clusters are shared.
-fn has_bad(bytes: &[u8], fields: &Fields) -> bool {
-    let counts = |fault: Fault| match fault {
-        Fault::Compressed | Fault::PastEnd => false,
-        Fault::NotOwned => fields.snapshots == 0,
-        _ => true,
-    };
+/// Entries of the disk's tables that are bad to any reader. Those past the end are
+/// looked for before.
+fn has_bad(bytes: &[u8]) -> bool {
+    let counts = |fault: Fault| !matches!(fault, Fault::Compressed | Fault::PastEnd);
     Layout::of(bytes).is_some_and(|layout| damage::any_bad(&layout, bytes, counts))
 }
 

@@ -2,7 +2,7 @@
 
 use super::{Remedy, Subject, WITHOUT};
 use crate::extensions;
-use crate::fields::{Fields, HEADER_LENGTH};
+use crate::fields::{Fields, HEADER_LENGTH, MAX_SNAPSHOTS};
 use crate::width::MAX_ORDER;
 
 pub fn sentence(number: u32, subject: &Subject) -> (String, Remedy) {
@@ -29,8 +29,11 @@ fn not_supported(subject: &Subject, fields: &Fields) -> String {
         2 => causes.push("the disk is encrypted (LUKS)".into()),
         other => causes.push(format!("crypt_method is {other}")),
     }
-    if fields.snapshots != 0 {
-        causes.push(format!("the image has {} internal snapshot(s)", fields.snapshots));
+    if fields.snapshots > MAX_SNAPSHOTS {
+        let number = fields.snapshots;
+        causes.push(format!(
+            "the image has {number} internal snapshots, and at most {MAX_SNAPSHOTS} are accepted"
+        ));
     }
     if fields.width().is_none() {
         let order = fields.order;
@@ -47,7 +50,7 @@ fn not_supported(subject: &Subject, fields: &Fields) -> String {
 fn remedy_not_supported(subject: &Subject, fields: &Fields) -> Remedy {
     let length_alone = fields.backing == 0
         && fields.crypt == 0
-        && fields.snapshots == 0
+        && fields.snapshots <= MAX_SNAPSHOTS
         && fields.width().is_some()
         && fields.incompatible == 0
         && fields.autoclear == 0;

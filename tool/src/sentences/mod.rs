@@ -7,11 +7,14 @@ mod copy;
 mod features;
 mod format;
 mod header;
+mod held;
 mod qemu;
 pub mod request;
 mod room;
+mod table;
 mod tail;
 
+use std::ffi::OsStr;
 use std::path::Path;
 
 use crate::json::Json;
@@ -30,7 +33,7 @@ pub struct Subject<'a> {
 
 /// What was asked when the core refused.
 #[derive(Clone, Copy)]
-pub enum Request {
+pub enum Request<'a> {
     Look,
     Read {
         offset: u64,
@@ -44,6 +47,12 @@ pub enum Request {
     },
     Discard {
         cluster: u64,
+    },
+    /// A read of the snapshot that a word names.
+    Snapshot {
+        word: &'a OsStr,
+        offset: u64,
+        length: u64,
     },
 }
 
@@ -82,13 +91,13 @@ impl Sentence {
     }
 }
 
-/// The refusal for a number from 1 to 18.
+/// The refusal for a number from 1 to 18, 21 or 22.
 pub fn refusal(number: u32, subject: &Subject, request: Request) -> Refusal {
     let Sentence { number, what, remedy, members } = sentence(number, subject, request);
     Refusal { number, what, advice: subject.advice(remedy), members }
 }
 
-/// What is wrong and what can be done, for a number from 1 to 18.
+/// What is wrong and what can be done.
 pub fn sentence(number: u32, subject: &Subject, request: Request) -> Sentence {
     let words = match number {
         1..=5 => header::shape(number, subject),
@@ -99,6 +108,8 @@ pub fn sentence(number: u32, subject: &Subject, request: Request) -> Sentence {
         14 => room::sentence(subject, request),
         11 | 15..=17 => request::sentence(number, subject, request),
         18 => header::sectors(subject),
+        21 => table::sentence(subject),
+        22 => return held::sentence(subject, request),
         _ => (
             "the core answered with an unknown number".into(),
             Remedy::Other("Report this.".into()),
@@ -165,19 +176,20 @@ mod tests {
             Request::Write { offset: u64::MAX, length: u64::MAX, whole: true },
             Request::Write { offset: 0, length: 1 << 30, whole: false },
             Request::Discard { cluster: u64::MAX },
+            Request::Snapshot { word: OsStr::new("a"), offset: u64::MAX, length: u64::MAX },
         ];
         let long = vec![0xFF; 1024];
         let zeros = vec![0; 1024];
         for bytes in [&[][..], &long[..], &zeros[..], &long[..104]] {
             let length = bytes.len() as u64;
             let subject = Subject { path: Path::new("a"), length, bytes };
-            for number in 0..20 {
+            for number in 0..24 {
                 for request in requests {
                     let refusal = refusal(number, &subject, request);
                     assert!(!refusal.what.is_empty() && !refusal.advice.is_empty());
                     assert_eq!(
                         refusal.what.contains("unknown number"),
-                        !(1..=18).contains(&number)
+                        !matches!(number, 1..=18 | 21 | 22)
                     );
                 }
             }

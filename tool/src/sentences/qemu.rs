@@ -5,6 +5,7 @@ use super::features::INCOMPATIBLE_BITS;
 use super::header::LOOK_FOR_ANOTHER;
 use super::Subject;
 use crate::fields::{Fields, HEADER_LENGTH};
+use crate::snapshots::{Table, MOST};
 
 /// Why qemu makes no copy, told by the header.
 pub fn refuses(subject: &Subject, fields: &Fields) -> Option<String> {
@@ -30,6 +31,8 @@ pub fn refuses(subject: &Subject, fields: &Fields) -> Option<String> {
         "such a compression type"
     } else if !tables_fit(fields) {
         "such tables"
+    } else if !snapshots_fit(subject.bytes, fields) {
+        "such a snapshot table"
     } else {
         return None;
     };
@@ -46,6 +49,18 @@ fn tables_fit(fields: &Fields) -> bool {
     let reach = u128::from(fields.l1_size) * u128::from(cluster / entry * cluster);
     let stand = fields.l1_at.is_multiple_of(cluster) && fields.table_at.is_multiple_of(cluster);
     stand && fields.table_clusters != 0 && reach >= fields.size.into()
+}
+
+/// Does the snapshot table stand at a cluster, and are neither its entries nor
+/// their extra data too many to qemu?
+fn snapshots_fit(bytes: &[u8], fields: &Fields) -> bool {
+    const MOST_EXTRA: u32 = 1024;
+    let Some(cluster) = fields.cluster() else { return false };
+    if fields.snapshots == 0 {
+        return true;
+    }
+    let stands = fields.snapshots_at.is_multiple_of(cluster);
+    stands && fields.snapshots <= MOST && Table::of(bytes, fields).extra <= MOST_EXTRA
 }
 
 /// The bit is set where the type is another than 0, and qemu knows 0 and 1. A

@@ -3,7 +3,7 @@
 use std::ops::RangeInclusive;
 
 use super::commands::NEW_CLUSTER;
-use super::{Remedy, Request, Subject};
+use super::{held, Remedy, Request, Subject};
 use crate::fields::{be64, MAX_IMAGE, PLACE};
 use crate::layout::Layout;
 
@@ -31,6 +31,11 @@ pub fn sentence(subject: &Subject, request: Request) -> (String, Remedy) {
          L2 tables), and the image has {free}",
         data + tables
     );
+    // Room is not enough where a snapshot holds what is to be changed.
+    if held::first(&layout, subject.bytes, guests.clone()).is_some() {
+        let what = format!("{what}; clusters on its way are held by a snapshot (22)");
+        return (what, elsewhere(&layout, subject.bytes, guests, held::deleted()));
+    }
     let missing = (data + tables).saturating_sub(free);
     let remedy = match appended(&layout, subject.bytes, missing) {
         Some(clusters) => Remedy::InPlace(format!(
@@ -38,7 +43,7 @@ pub fn sentence(subject: &Subject, request: Request) -> (String, Remedy) {
              room: {}.",
             subject.commands().append(clusters * cluster as u64)
         )),
-        None => elsewhere(&layout, subject.bytes, guests),
+        None => past_the_counts(&layout, subject.bytes, guests),
     };
     (what, remedy)
 }
@@ -96,7 +101,7 @@ fn appended(layout: &Layout, image: &[u8], missing: u64) -> Option<u64> {
 }
 
 /// Where the file cannot be lengthened enough.
-fn elsewhere(layout: &Layout, image: &[u8], guests: RangeInclusive<u64>) -> Remedy {
+fn past_the_counts(layout: &Layout, image: &[u8], guests: RangeInclusive<u64>) -> Remedy {
     let covered = layout.covered() as u64;
     if covered << layout.bits >= MAX_IMAGE {
         return Remedy::Other(too_much());
@@ -104,13 +109,18 @@ fn elsewhere(layout: &Layout, image: &[u8], guests: RangeInclusive<u64>) -> Reme
     let ends = format!(
         "The stored counts end at cluster {covered}, so this file cannot be lengthened enough."
     );
+    elsewhere(layout, image, guests, ends)
+}
+
+/// A new image with room for the write, if it is not too long then.
+fn elsewhere(layout: &Layout, image: &[u8], guests: RangeInclusive<u64>, reason: String) -> Remedy {
     let bytes = guests.start() << layout.bits..=((guests.end() + 1) << layout.bits) - 1;
     let larger = *bytes.start() / NEW_CLUSTER..=*bytes.end() / NEW_CLUSTER;
     let room = with_tables(larger.end() - larger.start() + 1) * NEW_CLUSTER;
     if new_length(layout, image) + room > MAX_IMAGE {
-        return Remedy::Other(format!("{ends} {}", too_much()));
+        return Remedy::Other(format!("{reason} {}", too_much()));
     }
-    Remedy::Roomy(room, format!("{ends} The new one is given room for the write."))
+    Remedy::Roomy(room, format!("{reason} The new one is given room for the write."))
 }
 
 /// Clusters of the larger size, and at most so many L2 tables.

@@ -3,6 +3,7 @@
 
 use crate::extensions;
 use crate::fields::{be64, Fields, COMPRESSED, MAX_L1, PLACE};
+use crate::snapshots::Table;
 
 pub const CUT_SHORT: &str = "its tables name clusters past its end, so it seems to be cut short";
 
@@ -27,13 +28,15 @@ const USUAL: u64 = 0b1011;
 pub fn refers_past(bytes: &[u8], end: u64) -> Option<bool> {
     let (fields, cluster) = usual(bytes)?;
     let counts = counts_refer_past(bytes, end, &fields, cluster);
-    Some(counts || l1_refers_past(bytes, end, &fields, cluster))
+    let mut below = Below::of(bytes, end, &fields, cluster);
+    let disk = below.refers_past(fields.l1_at, fields.l1_size);
+    Some(counts || disk || snapshots_refer_past(&mut below, &fields))
 }
 
 /// The same for the L1 table and its entries alone, which the disk is read by.
 pub fn disk_refers_past(bytes: &[u8], end: u64) -> Option<bool> {
     let (fields, cluster) = usual(bytes)?;
-    Some(l1_refers_past(bytes, end, &fields, cluster))
+    Some(Below::of(bytes, end, &fields, cluster).refers_past(fields.l1_at, fields.l1_size))
 }
 
 /// The fields and the cluster size, if the entries are of the usual kind.
@@ -57,33 +60,58 @@ fn counts_refer_past(bytes: &[u8], end: u64, fields: &Fields, cluster: u64) -> b
     past(fields.table_at, length, end) || blocks.any(|entry| names_past(entry, cluster, end))
 }
 
-fn l1_refers_past(bytes: &[u8], end: u64, fields: &Fields, cluster: u64) -> bool {
-    if past(fields.l1_at, 8 * u64::from(fields.l1_size), end) {
-        return true;
+/// The snapshot table, and what is below the snapshots' L1 tables.
+fn snapshots_refer_past(below: &mut Below, fields: &Fields) -> bool {
+    if fields.snapshots == 0 {
+        return false;
     }
-    let l1_size = u64::from(fields.l1_size).min(MAX_L1);
-    let mut seen = vec![false; bytes.len() >> fields.cluster_bits];
-    for table in entries(bytes, fields.l1_at, l1_size).map(|entry| entry & PLACE) {
-        if table == 0 {
-            continue;
+    let table = Table::of(below.bytes, fields);
+    let mut snapshots = table.snapshots.iter();
+    !table.whole
+        || table.end > below.end
+        || snapshots.any(|snapshot| below.refers_past(snapshot.l1_at, snapshot.l1_size))
+}
+
+/// L1 tables, and what is below them.
+struct Below<'a> {
+    bytes: &'a [u8],
+    end: u64,
+    cluster_bits: u32,
+    cluster: u64,
+    /// L2 tables that were looked at: once is enough where several entries name one.
+    seen: Vec<bool>,
+}
+
+impl Below<'_> {
+    fn of<'a>(bytes: &'a [u8], end: u64, fields: &Fields, cluster: u64) -> Below<'a> {
+        let cluster_bits = fields.cluster_bits;
+        Below { bytes, end, cluster_bits, cluster, seen: vec![false; bytes.len() >> cluster_bits] }
+    }
+
+    /// Does this L1 table, or an entry of it or below it?
+    fn refers_past(&mut self, l1_at: u64, l1_size: u32) -> bool {
+        if past(l1_at, 8 * u64::from(l1_size), self.end) {
+            return true;
         }
+        let l1_size = u64::from(l1_size).min(MAX_L1);
+        let mut tables = entries(self.bytes, l1_at, l1_size).map(|entry| entry & PLACE);
+        tables.any(|table| table != 0 && self.table_refers_past(table))
+    }
+
+    fn table_refers_past(&mut self, table: u64) -> bool {
+        let Below { bytes, end, cluster_bits, cluster, .. } = *self;
         if past(table, cluster, end) {
             return true;
         }
-        // A table that several entries name is looked at once.
-        let Some(seen) = seen.get_mut((table >> fields.cluster_bits) as usize) else { continue };
-        if std::mem::replace(seen, true) {
-            continue;
+        let seen = self.seen.get_mut((table >> cluster_bits) as usize);
+        if seen.is_none_or(|seen| std::mem::replace(seen, true)) {
+            return false;
         }
-        let stop = |entry: u64| match entry & COMPRESSED {
+        entries(bytes, table, cluster / 8).any(|entry| match entry & COMPRESSED {
             0 => names_past(entry, cluster, end),
-            _ => compressed_end(entry, fields.cluster_bits).next_multiple_of(cluster) > end,
-        };
-        if entries(bytes, table, cluster / 8).any(stop) {
-            return true;
-        }
+            _ => compressed_end(entry, cluster_bits).next_multiple_of(cluster) > end,
+        })
     }
-    false
 }
 
 /// The entries of a table, as far as the bytes have them.

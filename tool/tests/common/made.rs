@@ -86,14 +86,43 @@ pub fn largest(order: u32) -> u64 {
 /// The disk as the tables alone give it: the counts are not looked at, and what
 /// lies past the file's end reads as zeros.
 pub fn guest_by_tables(image: &[u8]) -> Vec<u8> {
-    let bits = u32::from(image[23]);
-    let (cluster, size) = (1usize << bits, get64(image, 24) as usize);
-    let l1_at = get64(image, 40) as usize;
-    let entry = |at: usize| if at + 8 <= image.len() { get64(image, at) } else { 0 };
+    by_tables(image, get64(image, 40) as usize, get64(image, 24) as usize)
+}
+
+/// The same for every snapshot, as far as their table can be read, and with at
+/// most a megabyte of each.
+pub fn snapshots_by_tables(image: &[u8]) -> Vec<Vec<u8>> {
+    let reach = |l1_size: usize| l1_size.saturating_mul(1 << (2 * image[23] - 3)).min(1 << 20);
+    let read = |(l1_at, l1_size)| by_tables(image, l1_at, reach(l1_size));
+    l1_of_snapshots(image).into_iter().map(read).collect()
+}
+
+/// The snapshots' L1 tables, with their sizes.
+pub fn l1_of_snapshots(image: &[u8]) -> Vec<(usize, usize)> {
+    let be = |at: usize, length: usize| {
+        let bytes = image.get(at..at.checked_add(length)?)?;
+        Some(bytes.iter().fold(0, |sum, &byte| sum << 8 | usize::from(byte)))
+    };
+    let (mut found, mut at) = (Vec::new(), get64(image, 64) as usize);
+    for _ in 0..be(60, 4).unwrap().min(64) {
+        let (Some(l1_at), Some(extra)) = (be(at, 8), be(at.saturating_add(36), 4)) else { break };
+        found.push((l1_at, be(at + 8, 4).unwrap()));
+        let words = be(at + 12, 2).unwrap() + be(at + 14, 2).unwrap();
+        at = (at + 40 + extra + words).next_multiple_of(8);
+    }
+    found
+}
+
+fn by_tables(image: &[u8], l1_at: usize, size: usize) -> Vec<u8> {
+    let cluster = 1usize << image[23];
+    let entry = |at: usize| {
+        let bytes = at.checked_add(8).and_then(|end| image.get(at..end));
+        bytes.map_or(0, |bytes| get64(bytes, 0))
+    };
     let place = |entry: u64| (entry & 0x00FF_FFFF_FFFF_FE00) as usize;
     let mut guest = vec![0; size];
     for (index, part) in guest.chunks_mut(cluster).enumerate() {
-        let table = place(entry(l1_at + 8 * (index / (cluster / 8))));
+        let table = place(entry(l1_at.saturating_add(8 * (index / (cluster / 8)))));
         if table == 0 {
             continue;
         }
@@ -112,16 +141,18 @@ pub fn names_past(image: &[u8], end: usize) -> bool {
     let cluster = 1usize << image[23];
     let place = |entry: u64| (entry & 0x00FF_FFFF_FFFF_FE00) as usize;
     let entries = |at: usize, number: usize| {
-        let range = at.min(image.len())..(at + 8 * number).min(image.len());
+        let range = at.min(image.len())..at.saturating_add(8 * number).min(image.len());
         image[range].chunks_exact(8).map(|entry| place(get64(entry, 0))).collect::<Vec<usize>>()
     };
     let l1_size = u32::from_be_bytes(image[36..40].try_into().unwrap()) as usize;
     let table_clusters = u32::from_be_bytes(image[56..60].try_into().unwrap()) as usize;
     let (l1_at, table_at) = (get64(image, 40) as usize, get64(image, 48) as usize);
     let past = |at: &usize| *at != 0 && at + cluster > end;
-    let tables = entries(l1_at, l1_size);
+    let mut l1 = vec![(l1_at, l1_size)];
+    l1.extend(l1_of_snapshots(image));
+    let tables: Vec<usize> = l1.iter().flat_map(|&(at, size)| entries(at, size)).collect();
     let data = tables.iter().filter(|at| **at != 0).flat_map(|&at| entries(at, cluster / 8));
-    l1_at + 8 * l1_size > end
+    l1.iter().any(|(at, size)| at.saturating_add(8 * size) > end)
         || table_at + table_clusters * cluster > end
         || entries(table_at, table_clusters * cluster / 8).iter().any(past)
         || tables.iter().any(past)

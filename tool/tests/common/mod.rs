@@ -2,6 +2,7 @@
 #![allow(dead_code)]
 
 pub mod drive;
+pub mod kept;
 pub mod made;
 
 use std::fs;

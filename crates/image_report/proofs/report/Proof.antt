@@ -12,7 +12,7 @@ accepted-requires c κs =
     let s = now (c .before .before .before .before .before .before .before .before .before .before .args .image) in
     let g = c .before .j2 .given .0 .0 in
     let e : opened s ≡ Accepted g = cc in
-    accepted-is s g e
+    accepted-is s g e .0
 
 pub report-spec : {M : Type 1} → statement M
 report-spec =

@@ -1,4 +1,4 @@
-use mathlib.Core.Path.{_≡_, sym}
+use mathlib.Core.Path.{_≡_, sym, _∙_}
 use lib.ListN.{length}
 use denote.Ref.{now}
 use borrow.Author.Needs.{needs}
@@ -13,7 +13,7 @@ check-requires : tie.Need-check-requires
 check-requires c κs =
     let s = now (c .before .before .before .before .before .before .before .args .image) in
     let g = c .before .before .j2 .given .0 .0 in
-    let e : opened s ≡ Accepted g = cc in
+    let e : opened s ≡ Accepted g = sym (c .before .before .before .before .judge .ensures) ∙ c .before .before .j2 .given .1 in
     accepted-is s g e
 
 returns : tie.Need-returns
@@ -22,7 +22,7 @@ returns c =
     let s = now (a .image) in
     let t = now (a .scratch) in
     let k = c .before .j .given .0 .0 in
-    let e : opened s ≡ Refused k = cc in
+    let e : opened s ≡ Refused k = sym (c .before .before .before .judge .ensures) ∙ c .before .j .given .1 in
     (sym (check-refused s k e (length t)), sym (scratch-refused s k e t))
 
 returns-2 : tie.Need-returns-2

@@ -1,4 +1,4 @@
-use mathlib.Core.Path.{_≡_}
+use mathlib.Core.Path.{_≡_, sym, _∙_}
 use denote.Ref.{now}
 use borrow.Author.Needs.{needs}
 use Rattle.qcow2_spec.specs.declared.Judged.the-variants.{Refused, Accepted}
@@ -12,7 +12,7 @@ discard-requires : tie.Need-discard-requires
 discard-requires c κs =
     let s = now (c .before .before .before .before .before .before .before .args .image) in
     let g = c .before .before .j2 .given .0 .0 in
-    let e : opened s ≡ Accepted g = cc in
+    let e : opened s ≡ Accepted g = sym (c .before .before .before .before .judge .ensures) ∙ c .before .before .j2 .given .1 in
     accepted-is s g e
 
 returns : tie.Need-returns
@@ -20,7 +20,7 @@ returns c =
     let a = c .before .before .before .before .before .before .args in
     let s = now (a .image) in
     let k = c .before .j .given .0 .0 in
-    let e : opened s ≡ Refused k = cc in
+    let e : opened s ≡ Refused k = sym (c .before .before .before .judge .ensures) ∙ c .before .j .given .1 in
     discard-refused s k e (a .guest) (a .allowance)
 
 returns-2 : tie.Need-returns-2

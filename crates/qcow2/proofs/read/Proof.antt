@@ -1,4 +1,4 @@
-use mathlib.Core.Path.{_≡_, sym}
+use mathlib.Core.Path.{_≡_, sym, _∙_}
 use lib.ListN.{length}
 use denote.Ref.{now}
 use borrow.Author.Needs.{needs}
@@ -13,8 +13,8 @@ read-into-requires : tie.Need-read-into-requires
 read-into-requires c κs =
     let s = now (c .before .before .before .before .before .before .before .args .image) in
     let g = c .before .before .j2 .given .0 .0 in
-    let e : opened s ≡ Accepted g = cc in
-    accepted-is s g e
+    let e : opened s ≡ Accepted g = sym (c .before .before .before .before .judge .ensures) ∙ c .before .before .j2 .given .1 in
+    accepted-is s g e .0
 
 returns : tie.Need-returns
 returns c =
@@ -22,11 +22,17 @@ returns c =
     let s = now (a .image) in
     let o = now (a .out) in
     let k = c .before .j .given .0 .0 in
-    let e : opened s ≡ Refused k = cc in
-    (sym (number-refused s k e (a .x) (length o)), sym (into-refused s k e (a .x) o))
+    let e : opened s ≡ Refused k = sym (c .before .before .before .judge .ensures) ∙ c .before .j .given .1 in
+    (sym (number-refused s k e 0 (a .x) (length o)), sym (into-refused s k e 0 (a .x) o))
 
 returns-2 : tie.Need-returns-2
-returns-2 c = c .before .before .read-into .ensures
+returns-2 c =
+    let w = c .before .before in
+    let m = w .before .before .before in
+    let s = now (m .before .before .before .before .before .args .image) in
+    let g = m .j2 .given .0 .0 in
+    let e : opened s ≡ Accepted g = sym (m .before .before .judge .ensures) ∙ m .j2 .given .1 in
+    rw (accepted-is s g e .1) at (w .read-into .ensures)
 
 pub read-spec : {M : Type 1} → statement M
 read-spec = tie.close (tie.spec (search needs) (search needs) (search needs) read-into-requires returns (search needs) returns-2)

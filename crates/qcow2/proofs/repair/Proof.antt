@@ -1,4 +1,4 @@
-use mathlib.Core.Path.{_≡_, sym}
+use mathlib.Core.Path.{_≡_, sym, _∙_}
 use lib.ListN.{length}
 use denote.Ref.{now}
 use borrow.Author.Needs.{needs}
@@ -13,7 +13,7 @@ repair-requires : tie.Need-repair-requires
 repair-requires c κs =
     let s = now (c .before .before .before .before .before .before .before .before .before .args .image) in
     let g = c .before .before .before .j2 .given .0 .0 in
-    let e : opened s ≡ Accepted g = cc in
+    let e : opened s ≡ Accepted g = sym (c .before .before .before .before .before .judge .ensures) ∙ c .before .before .before .j2 .given .1 in
     accepted-is s g e
 
 returns : tie.Need-returns
@@ -21,7 +21,7 @@ returns c =
     let a = c .before .before .before .before .before .before .before .args in
     let s = now (a .image) in
     let k = c .before .j .given .0 .0 in
-    let e : opened s ≡ Refused k = cc in
+    let e : opened s ≡ Refused k = sym (c .before .before .before .judge .ensures) ∙ c .before .j .given .1 in
     (repair-refused s k e (length (now (a .scratch))) (a .allowance), sym (scratch-refused s k e (now (a .scratch))))
 
 returns-2 : tie.Need-returns-2

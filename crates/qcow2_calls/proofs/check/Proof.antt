@@ -1,8 +1,9 @@
+use native.Mathlib.Omega.{arith}
 use mathlib.Core.Path.{_∙_}
 use lib.ListN.{length}
 use denote.Ref.{now}
 use borrow.Author.Needs.{needs}
-use Rattle.qcow2_calls.proofs.Requests.{check-short, check-room, scratch-short, scratch-room}
+use Rattle.qcow2_calls.proofs.Rooms.{check-short, check-room, scratch-short, scratch-room}
 use Rattle.qcow2_calls.proofs.check.Statement.{statement}
 use Rattle.qcow2_calls.proofs.check.Tie as tie
 
@@ -11,10 +12,10 @@ returns c =
     let b = c .before .before .before .before in
     let s = now (b .args .image) in
     let t = now (b .args .scratch) in
-    (check-short (b .args .g) s (b .pre) (length t) (c .if1 .taken), scratch-short (b .args .g) s (b .pre) t (c .if1 .taken))
+    (check-short (b .args .g) s (b .pre .0) (length t) (c .if1 .taken), scratch-short (b .args .g) s (b .pre .0) t (c .if1 .taken))
 
 check-requires : tie.Need-check-requires
-check-requires c κs = (c .before .before .before .before .before .pre, c .before .if1 .left)
+check-requires c κs = (c .before .before .before .before .before .pre, omega (arith, c .before .if1 .left))
 
 returns-2 : tie.Need-returns-2
 returns-2 c =
@@ -22,7 +23,7 @@ returns-2 c =
     let s = now (b .args .image) in
     let t = now (b .args .scratch) in
     let e = c .before .before .check .ensures in
-    (e .0 ∙ check-room (b .args .g) s (b .pre) (length t) (c .before .before .before .before .if1 .left), e .1 ∙ scratch-room (b .args .g) s (b .pre) t (c .before .before .before .before .if1 .left))
+    (e .0 ∙ check-room (b .args .g) s (b .pre .0) (length t) (c .before .before .before .before .if1 .left), e .1 ∙ scratch-room (b .args .g) s (b .pre .0) t (c .before .before .before .before .if1 .left))
 
 pub check-spec : {M : Type 1} → statement M
 check-spec = tie.close (tie.spec returns check-requires (search needs) returns-2)

@@ -1,8 +1,9 @@
+use native.Mathlib.Omega.{arith}
 use mathlib.Core.Path.{_∙_}
 use lib.ListN.{length}
 use denote.Ref.{now}
 use borrow.Author.Needs.{needs}
-use Rattle.qcow2_calls.proofs.Requests.{repair-short, repair-room, scratch-short, scratch-room, left-figured}
+use Rattle.qcow2_calls.proofs.Rooms.{repair-short, repair-room, scratch-short, scratch-room, left-figured}
 use Rattle.qcow2_calls.proofs.repair.Statement.{statement}
 use Rattle.qcow2_calls.proofs.repair.Tie as tie
 
@@ -12,17 +13,17 @@ returns c =
     let a = b .args in
     let s = now (a .image) in
     let t = now (a .scratch) in
-    (repair-short (a .g) s (b .pre) (length t) (a .allowance) (c .if1 .taken), scratch-short (a .g) s (b .pre) t (c .if1 .taken))
+    (repair-short (a .g) s (b .pre .0) (length t) (a .allowance) (c .if1 .taken), scratch-short (a .g) s (b .pre .0) t (c .if1 .taken))
 
 check-requires : tie.Need-check-requires
-check-requires c κs = (c .before .before .before .before .before .before .pre, c .before .before .if1 .left)
+check-requires c κs = (c .before .before .before .before .before .before .pre, omega (arith, c .before .before .if1 .left))
 
 verdict-repair-requires : tie.Need-verdict-repair-requires
 verdict-repair-requires c κs =
     let b = c .before .before .before .before .before .before .before .before .before .before .before in
     let a = b .args in
     let e = c .before .before .before .before .check .ensures in
-    ((b .pre, left-figured (a .g) (now (a .image)) (b .pre) (now (a .scratch)) _ (e .1)), e .0)
+    ((b .pre .0, left-figured (now (a .image)) (now (a .scratch)) _ (e .1)), e .0)
 
 returns-2 : tie.Need-returns-2
 returns-2 c =
@@ -31,8 +32,8 @@ returns-2 c =
     let s = now (a .image) in
     let t = now (a .scratch) in
     let e = c .before .before .before .before .before .before .before .check .ensures in (
-      repair-room (a .g) s (b .pre) (length t) (a .allowance) (c .before .before .before .before .before .before .before .check .result) _ _ (c .before .before .before .before .before .before .before .before .before .before .if1 .left) (e .0) (c .before .before .verdict-repair .ensures),
-      e .1 ∙ scratch-room (a .g) s (b .pre) t (c .before .before .before .before .before .before .before .before .before .before .if1 .left),
+      repair-room (a .g) s (b .pre .0) (length t) (a .allowance) (c .before .before .before .before .before .before .before .check .result) _ _ (c .before .before .before .before .before .before .before .before .before .before .if1 .left) (e .0) (c .before .before .verdict-repair .ensures),
+      e .1 ∙ scratch-room (a .g) s (b .pre .0) t (c .before .before .before .before .before .before .before .before .before .before .if1 .left),
     )
 
 pub repair-spec : {M : Type 1} → statement M

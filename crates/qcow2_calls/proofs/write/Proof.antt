@@ -5,10 +5,10 @@ use lib.ListN.{length}
 use denote.Ref.{now}
 use borrow.Author.Needs.{needs}
 use Rattle.qcow2_spec.specs.declared.Way.{Way}
-use Rattle.qcow2_spec.specs.Header.{diskSize, l1Size, perTable}
+use Rattle.qcow2_spec.specs.Header.{perTable, rootSize}
 use Rattle.qcow2_spec.specs.Ready.{Ready}
-use Rattle.qcow2_guest.proofs.Ready.{reached, way-ready}
-use Rattle.qcow2_calls.proofs.Requests.{write-offset, write-range, write-across, write-none, write-some}
+use Rattle.qcow2_own.proofs.Ready.{own-ready}
+use Rattle.qcow2_calls.proofs.Requests.{has-row, write-offset, write-range, write-across, write-none, write-some}
 use Rattle.qcow2_calls.proofs.write.Statement.{statement}
 use Rattle.qcow2_calls.proofs.write.Tie as tie
 
@@ -25,10 +25,10 @@ returns-2 c =
     write-range (a .g) (now (a .image)) (b .pre) (a .x) (now (a .src)) (a .allowance) (c .before .before .if1 .left) (c .if2 .taken)
 
 rest-requires : tie.Need-rest-requires
-rest-requires c κs = omega (arith, c .before .before .before .before .before .before .pre .high)
+rest-requires c κs = omega (arith, c .before .before .before .before .before .before .pre .0 .high)
 
 power-requires : tie.Need-power-requires
-power-requires c κs = omega (arith, c .before .before .before .before .before .before .before .pre .high)
+power-requires c κs = omega (arith, c .before .before .before .before .before .before .before .pre .0 .high)
 
 sub-if3 : tie.Need-sub-if3
 sub-if3 c = omega (arith, c .before .rest .ensures .1 .0, c .power .ensures .0)
@@ -48,26 +48,26 @@ returns-4 c =
     (rw (c .before .before .before .power .ensures .0, c .before .before .before .before .rest .ensures .0) at (c .before .before .if3 .left)) _ (c .before .if4 .taken) (c .end-of .ensures)
 
 quotient-requires : tie.Need-quotient-requires
-quotient-requires c κs = omega (arith, c .before .before .before .before .before .before .before .before .before .before .pre .high)
+quotient-requires c κs = omega (arith, c .before .before .before .before .before .before .before .before .before .before .pre .0 .high)
 
-way-to-requires : tie.Need-way-to-requires
-way-to-requires c κs =
+own-way-requires : tie.Need-own-way-requires
+own-way-requires c κs =
     let b = c .before .before .before .before .before .before .before .before .before .before .before .before in
     let a = b .args in
     let s = now (a .image) in
-    let l : a .x < diskSize s = omega (arith, c .before .before .before .before .before .before .before .before .if1 .left, c .before .before .before .before .before .before .if2 .left, c .before .before .if4 .left, b .pre .is-size) in
-    (b .pre, rw (c .before .quotient .ensures .0, b .pre .is-cluster) (reached (a .g) s (b .pre) (a .x) l))
+    let l : a .x < a .g .size = omega (arith, c .before .before .before .before .before .before .before .before .if1 .left, c .before .before .before .before .before .before .if2 .left, c .before .before .if4 .left) in
+    (b .pre, rw (c .before .quotient .ensures .0, b .pre .0 .is-cluster) (has-row (a .g) s (b .pre) (a .x) l))
 
 write-way-requires : tie.Need-write-way-requires
 write-way-requires c κs =
     let b = c .before .before .before .before .before .before .before .before .before .before .before .before .before .before in
     let a = b .args in
     let s = now (a .image) in
-    let l : a .x < diskSize s = omega (arith, c .before .before .before .before .before .before .before .before .before .before .if1 .left, c .before .before .before .before .before .before .before .before .if2 .left, c .before .before .before .before .if4 .left, b .pre .is-size) in
+    let l : a .x < a .g .size = omega (arith, c .before .before .before .before .before .before .before .before .before .before .if1 .left, c .before .before .before .before .before .before .before .before .if2 .left, c .before .before .before .before .if4 .left) in
     let y = c .before .before .before .quotient .result in
-    let h : y / perTable s < l1Size s = rw (c .before .before .before .quotient .ensures .0, b .pre .is-cluster) (reached (a .g) s (b .pre) (a .x) l) in
+    let h : y / perTable s < rootSize s 0 = rw (c .before .before .before .quotient .ensures .0, b .pre .0 .is-cluster) (has-row (a .g) s (b .pre) (a .x) l) in
     let fits : c .before .before .before .before .before .before .before .rest .result + length (now (a .src)) ≤ 2 ^ a .g .bits = omega (arith, c .before .before .before .before .before .before .power .ensures .0, c .before .before .before .before .before .before .before .rest .ensures .1 .0, c .before .before .before .before .before .if3 .left) in
-    ((b .pre, subst (λ (w : Way). Ready (a .g) s w y) (sym (c .before .way-to .ensures)) (way-ready (a .g) s (b .pre) y h)), (fits, omega (arith, c .before .before .before .before .if4 .left)))
+    ((b .pre, subst (λ (w : Way). Ready (a .g) s w y) (sym (c .before .own-way .ensures)) (own-ready (a .g) s y (b .pre) h)), (fits, omega (arith, c .before .before .before .before .if4 .left)))
 
 returns-5 : tie.Need-returns-5
 returns-5 c =
@@ -75,8 +75,8 @@ returns-5 c =
     let a = b .args in
     write-some (a .g) (now (a .image)) (b .pre) (a .x) (now (a .src)) (a .allowance) (c .before .before .before .before .before .before .before .before .before .before .before .before .before .if1 .left) (c .before .before .before .before .before .before .before .before .before .before .before .if2 .left)
     (rw (c .before .before .before .before .before .before .before .before .before .power .ensures .0, c .before .before .before .before .before .before .before .before .before .before .rest .ensures .0) at (c .before .before .before .before .before .before .before .before .if3 .left))
-    (c .before .before .before .before .before .before .quotient .result) (c .before .before .before .before .before .before .before .before .before .before .rest .result) (c .before .before .before .before .way-to .result) _ _ (c .before .before .before .before .before .before .before .if4 .left)
-    (c .before .before .before .before .before .before .quotient .ensures .0) (c .before .before .before .before .before .before .before .before .before .before .rest .ensures .0) (c .before .before .before .before .way-to .ensures) (c .before .before .write-way .ensures)
+    (c .before .before .before .before .before .before .quotient .result) (c .before .before .before .before .before .before .before .before .before .before .rest .result) (c .before .before .before .before .own-way .result) _ _ (c .before .before .before .before .before .before .before .if4 .left)
+    (c .before .before .before .before .before .before .quotient .ensures .0) (c .before .before .before .before .before .before .before .before .before .before .rest .ensures .0) (c .before .before .before .before .own-way .ensures) (c .before .before .write-way .ensures)
 
 pub write-spec : {M : Type 1} → statement M
 write-spec =
@@ -91,7 +91,7 @@ write-spec =
     (search needs)
     returns-4
     quotient-requires
-    way-to-requires
+    own-way-requires
     write-way-requires
     (search needs)
     returns-5)

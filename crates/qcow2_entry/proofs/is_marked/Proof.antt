@@ -1,7 +1,6 @@
 use borrow.Author.Needs.{needs}
 use borrow.Author.Tests.{eq-eqb, ne-eqb}
-use Prim.Native.Nat.{_-_}
-use Rattle.qcow2_entry.specs.Plain.{plain, marked}
+use Rattle.qcow2_entry.specs.Plain.{bare, plain, marked}
 use Rattle.qcow2_entry.proofs.is_marked.Statement.{statement}
 use Rattle.qcow2_entry.proofs.is_marked.Tie as tie
 
@@ -10,7 +9,7 @@ unfolding marked
 returns c = rw (ne-eqb (c .before .args .version) 3 (c .if1 .taken))
 
 returns-2 : tie.Need-returns-2
-unfolding marked plain
+unfolding marked plain bare
 returns-2 c = rw (eq-eqb (c .before .before .args .version) 3 (c .before .if1 .left), c .if2 .taken)
 
 returns-3 : tie.Need-returns-3

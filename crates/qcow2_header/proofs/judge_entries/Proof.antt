@@ -2,10 +2,8 @@ use borrow.Author.Needs.{needs}
 use native.Mathlib.Omega.{arith}
 use native.Mathlib.Nat.{mul-le-mul}
 use Prim.Native.Nat.{_/_, _^_, _≤_}
-use mathlib.Core.Path.{ap}
 use lib.ListN.{length-drop}
 use Rattle.endian.proofs.Entries.{part-rest}
-use Rattle.qcow2_spec.specs.declared.Judged.the-variants.{Accepted}
 use Rattle.qcow2_header.specs.Chain.{from10}
 use Rattle.qcow2_header.proofs.Laws.{entries-fit, table-told}
 use Rattle.qcow2_header.proofs.judge_entries.Statement.{statement}
@@ -27,8 +25,7 @@ good-requires c κs =
 returns : tie.Need-returns
 unfolding from10
 returns c =
-    let p = c .before .before .before .before .before .before .pre .read .is in
-    rw (table-told _ _ _ p (c .before .before .before .before .power .ensures .0) (c .before .good2 .ensures) (c .if1 .taken)) (ap Accepted p)
+    rw (table-told _ _ _ (c .before .before .before .before .before .before .before .pre .read .is) (c .before .before .before .before .before .power .ensures .0) (c .before .before .good2 .ensures) (c .before .if1 .taken)) (c .judge-snapshots .ensures)
 
 returns-2 : tie.Need-returns-2
 unfolding from10
@@ -37,4 +34,4 @@ returns-2 c = rw (table-told _ _ _ (c .before .before .before .before .before .b
 pub judge-entries-spec : {M : Type 1} → statement M
 judge-entries-spec =
     tie.close
-    (tie.spec (search needs) mul-count (search needs) (search needs) (search needs) good-requires returns returns-2)
+    (tie.spec (search needs) mul-count (search needs) (search needs) (search needs) good-requires (λ c κs. c .before .before .before .before .before .before .pre .read) returns returns-2)

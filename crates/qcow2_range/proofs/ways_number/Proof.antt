@@ -14,7 +14,7 @@ use Rattle.qcow2_range.proofs.ways_number.Statement.{statement}
 use Rattle.qcow2_range.proofs.ways_number.Tie as tie
 
 abbrev Inv-loop : tie.InvT-loop
-Inv-loop image g guest k i₀ i = (i ≤ k) × (waysNumber image guest k ≡ waysNumber image (guest + i) (k - i))
+Inv-loop image g guest k i₀ i = (i ≤ k) × (waysNumber image (g .root) guest k ≡ waysNumber image (g .root) (guest + i) (k - i))
 
 abbrev μ-loop : tie.MeasureT-loop
 μ-loop image g guest k i₀ i = k - i
@@ -38,7 +38,7 @@ returns c =
     let l = c .before .before .before .before .before .loop in
     let a = c .before .before .before .before .before .before .before .args in
     let v = c .before .row-number .ensures in
-    v ∙ sym (l .inv .1 ∙ ways-stop (now (a .image)) (a .guest) (a .k) (l .i) (c .before .before .piece .result) (omega arith) (λ z. c .if1 .taken (v ∙ z)))
+    v ∙ sym (l .inv .1 ∙ ways-stop (now (a .image)) (a .g .root) (a .guest) (a .k) (l .i) (c .before .before .piece .result) (omega arith) (λ z. c .if1 .taken (v ∙ z)))
 
 loop-less : tie.Need-loop-less Inv-loop μ-loop
 loop-less c =
@@ -50,13 +50,13 @@ loop-again : tie.Need-loop-again Inv-loop μ-loop
 loop-again c =
     let l = c .before .before .before .before .before .loop in
     let a = c .before .before .before .before .before .before .before .args in
-    (omega arith, l .inv .1 ∙ ways-next (now (a .image)) (a .guest) (a .k) (l .i) (c .before .before .piece .result) (omega arith) (sym (c .before .row-number .ensures) ∙ c .if1 .left))
+    (omega arith, l .inv .1 ∙ ways-next (now (a .image)) (a .g .root) (a .guest) (a .k) (l .i) (c .before .before .piece .result) (omega arith) (sym (c .before .row-number .ensures) ∙ c .if1 .left))
 
 returns-2 : tie.Need-returns-2 Inv-loop μ-loop
 returns-2 c =
     let l = c .before .loop in
     let a = c .before .before .before .args in
-    sym (l .inv .1 ∙ ways-end (now (a .image)) (a .guest) (a .k) (l .i) (omega arith))
+    sym (l .inv .1 ∙ ways-end (now (a .image)) (a .g .root) (a .guest) (a .k) (l .i) (omega arith))
 
 pub ways-number-spec : {M : Type 1} → statement M
 ways-number-spec =

@@ -23,7 +23,7 @@ read-piece-requires c κs =
     let m = c .before .piece .result in
     let d : a .done + m - a .done ≡ m = omega arith in
     let n : length (take m (drop (a .done) o)) ≡ m = length-take-le m (drop (a .done) o) (simp length-drop (omega arith)) in
-    (b .pre .0, (omega (arith, b .pre .1 .0, b .pre .1 .1 .1), (lent-from (now (a .image)) (now (a .table)) (a .x) (length o) (a .done) 1 (omega arith) (b .pre .1 .1 .0), rw (d, n) (omega (arith, mod-lt (a .x + a .done) (pow-pos (a .g .bits)))))))
+    (b .pre .0, (omega (arith, b .pre .1 .0, b .pre .1 .1 .1), (lent-from (now (a .image)) (a .g .root) (now (a .table)) (a .x) (length o) (a .done) 1 (omega arith) (b .pre .1 .1 .0), rw (d, n) (omega (arith, mod-lt (a .x + a .done) (pow-pos (a .g .bits)))))))
 
 returns : tie.Need-returns
 returns c =
@@ -34,7 +34,7 @@ returns c =
     let m = q .piece .result in
     let d : a .done + m - a .done ≡ m = omega arith in
     let n : length (take m (drop (a .done) o)) ≡ m = length-take-le m (drop (a .done) o) (simp length-drop (omega arith)) in
-    let w : c .before .before .read-piece .last .1 .1 .1 .1 .0 ≡ guestBytes (now (a .image)) (a .x + a .done) m = rw (d, n) at (c .before .before .read-piece .ensures) in
+    let w : c .before .before .read-piece .last .1 .1 .1 .1 .0 ≡ guestBytes (now (a .image)) (a .g .root) (a .x + a .done) m = rw (d, n) at (c .before .before .read-piece .ensures) in
     ((omega (arith, mod-lt (a .x + a .done) (pow-pos (a .g .bits))), omega arith), rw (d, w, drop-drop))
 
 pub next-piece-spec : {M : Type 1} → statement M

@@ -15,21 +15,21 @@ sub-piece : tie.Need-sub-piece
 sub-piece c =
     let b = c .before .before .before .before .before .before in
     let a = b .args in
-    let k = host-found (a .g) (now (a .image)) (b .pre) (a .x) _ (sym (c .before .before .before .before .translated .ensures) ∙ c .before .before .f .given .1) in
+    let k = host-found (a .g) (now (a .image)) (b .pre .0) (a .x) (b .pre .1) _ (sym (c .before .before .before .before .translated .ensures) ∙ c .before .before .f .given .1) in
     omega arith
 
 add-result : tie.Need-add-result
 add-result c =
     let b = c .before .before .before .before .before .before .before in
     let a = b .args in
-    let k = host-found (a .g) (now (a .image)) (b .pre) (a .x) _ (sym (c .before .before .before .before .before .translated .ensures) ∙ c .before .before .before .f .given .1) in
+    let k = host-found (a .g) (now (a .image)) (b .pre .0) (a .x) (b .pre .1) _ (sym (c .before .before .before .before .before .translated .ensures) ∙ c .before .before .before .f .given .1) in
     omega arith
 
 part-result-end : tie.Need-part-result-end
 part-result-end c =
     let b = c .before .before .before .before .before .before .before in
     let a = b .args in
-    let k = host-found (a .g) (now (a .image)) (b .pre) (a .x) _ (sym (c .before .before .before .before .before .translated .ensures) ∙ c .before .before .before .f .given .1) in
+    let k = host-found (a .g) (now (a .image)) (b .pre .0) (a .x) (b .pre .1) _ (sym (c .before .before .before .before .before .translated .ensures) ∙ c .before .before .before .f .given .1) in
     omega arith
 
 returns : tie.Need-returns
@@ -39,7 +39,7 @@ returns c =
     let h = c .before .before .before .before .f .given .0 .0 in
     let m = c .before .piece .result in
     let d : h + m - h ≡ m = omega arith in
-    rw d (host-part (a .g) (now (a .image)) (b .pre) (a .x) h m (sym (c .before .before .before .before .before .before .translated .ensures) ∙ c .before .before .before .before .f .given .1) (c .before .piece .ensures))
+    rw d (host-part (a .g) (now (a .image)) (b .pre .0) (a .x) (b .pre .1) h m (sym (c .before .before .before .before .before .before .translated .ensures) ∙ c .before .before .before .before .f .given .1) (c .before .piece .ensures))
 
 returns-2 : tie.Need-returns-2
 unfolding inPlace

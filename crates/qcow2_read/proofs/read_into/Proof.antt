@@ -14,7 +14,7 @@ returns : tie.Need-returns
 returns c =
     let a = c .before .before .before .before .args in
     let v = c .before .read-number .ensures in
-    (v, sym (into-refused (now (a .image)) (a .x) (now (a .out)) (λ z. c .if1 .taken (v ∙ z))))
+    (v, sym (into-refused (now (a .image)) (a .g .root) (a .x) (now (a .out)) (λ z. c .if1 .taken (v ∙ z))))
 
 read-all-requires : tie.Need-read-all-requires
 read-all-requires c κs =
@@ -25,8 +25,8 @@ read-all-requires c κs =
 returns-2 : tie.Need-returns-2
 returns-2 c =
     let a = c .before .before .before .before .before .before .before .before .args in
-    let z : readNumber (now (a .image)) (a .x) (length (now (a .out))) ≡ 0 = sym (c .before .before .before .before .before .read-number .ensures) ∙ c .before .before .before .before .if1 .left in
-    (sym z, c .before .before .read-all .ensures ∙ sym (into-done (now (a .image)) (a .x) (now (a .out)) z))
+    let z : readNumber (now (a .image)) (a .g .root) (a .x) (length (now (a .out))) ≡ 0 = sym (c .before .before .before .before .before .read-number .ensures) ∙ c .before .before .before .before .if1 .left in
+    (sym z, c .before .before .read-all .ensures ∙ sym (into-done (now (a .image)) (a .g .root) (a .x) (now (a .out)) z))
 
 pub read-into-spec : {M : Type 1} → statement M
 read-into-spec = tie.close (tie.spec read-number-requires returns read-all-requires (search needs) returns-2)

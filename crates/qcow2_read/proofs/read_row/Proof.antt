@@ -17,7 +17,7 @@ table-of-requires c κs =
     (o, rw (c .quotient .ensures .0, o .is-cluster) (reached (b .args .g) (now (b .args .image)) o (b .args .x) (omega (arith, b .pre .1 .0, b .pre .1 .1 .0))))
 
 -- the table that is lent: its place, and that it lies in the image
-placed : (c : tie.After-power) → c .before .before .table-of .result ≡ tableOf (now (c .before .before .before .before .before .before .args .image)) (c .before .before .before .before .before .before .args .x / 2 ^ c .before .before .before .before .before .before .args .g .bits)
+placed : (c : tie.After-power) → c .before .before .table-of .result ≡ tableOf (now (c .before .before .before .before .before .before .args .image)) (c .before .before .before .before .before .before .args .g .root) (c .before .before .before .before .before .before .args .x / 2 ^ c .before .before .before .before .before .before .args .g .bits)
 placed c = rw (← c .before .before .before .quotient .ensures .0) (c .before .before .table-of .ensures)
 
 inside : (c : tie.After-power) → c .before .before .table-of .result + c .power .result ≤ length (now (c .before .before .before .before .before .before .args .image))
@@ -46,7 +46,7 @@ returns : tie.Need-returns
 returns c =
     let b = c .before .before .before .before .before .before .before .before .before in
     let a = b .args in
-    let v : tableOf (now (a .image)) (a .x / 2 ^ a .g .bits) ≡ 0 = rw (← c .before .before .before .before .before .before .quotient .ensures .0) (sym (c .before .before .before .before .before .table-of .ensures) ∙ c .before .before .before .before .if1 .taken) in
+    let v : tableOf (now (a .image)) (a .g .root) (a .x / 2 ^ a .g .bits) ≡ 0 = rw (← c .before .before .before .before .before .before .quotient .ensures .0) (sym (c .before .before .before .before .before .table-of .ensures) ∙ c .before .before .before .before .if1 .taken) in
     c .before .before .zeros .ensures ∙ row-blank (a .g) (now (a .image)) (b .pre .0) (a .x) (length (now (a .part))) (b .pre .1 .1 .1) v (now (a .part)) refl
 
 returns-2 : tie.Need-returns-2

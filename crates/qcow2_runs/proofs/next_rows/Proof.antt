@@ -10,7 +10,7 @@ use Rattle.qcow2_runs.proofs.next_rows.Tie as tie
 
 abbrev Inv-loop : tie.InvT-loop
 Inv-loop image g x f i0 len i₀ i =
-    (i ≤ len) × ((i < len → (x + i) % 2 ^ g .bits ≡ 0) × (runFrom image x i0 (len - i0) ≡ runFrom image x i (len - i)))
+    (i ≤ len) × ((i < len → (x + i) % 2 ^ g .bits ≡ 0) × (runFrom image (g .root) x i0 (len - i0) ≡ runFrom image (g .root) x i (len - i)))
 
 abbrev μ-loop : tie.MeasureT-loop
 μ-loop image g x f i0 len i₀ i = len - i
@@ -41,7 +41,7 @@ returns c =
     let l = c .before .before .before .before .loop in
     let u = c .before .in-next-row .ensures in
     let m = c .before .before .row-left .ensures in
-    sym (l .inv .1 .1 ∙ run-next (now (a .image)) (a .x) (a .len) (l .i) _ _ (omega (arith, m)) u ∙ run-stops (now (a .image)) (a .x) (a .len) _ (omega (arith, m, c .if1 .taken)) (u .ends (c .if1 .taken)))
+    sym (l .inv .1 .1 ∙ run-next (now (a .image)) (a .g .root) (a .x) (a .len) (l .i) _ _ (omega (arith, m)) u ∙ run-stops (now (a .image)) (a .g .root) (a .x) (a .len) _ (omega (arith, m, c .if1 .taken)) (u .ends (c .if1 .taken)))
 
 add-i : tie.Need-add-i Inv-loop μ-loop
 add-i c = omega (arith, c .before .in-next-row .ensures .most, c .before .before .row-left .ensures)
@@ -64,7 +64,7 @@ loop-again c =
       omega (arith, m, u .most),
       (
         (λ h. rw d (row-stop (a .g) (a .x + l .i) (a .len - l .i) _ m (omega (arith, e, h)))),
-        l .inv .1 .1 ∙ run-next (now (a .image)) (a .x) (a .len) (l .i) _ _ (omega (arith, m)) u,
+        l .inv .1 .1 ∙ run-next (now (a .image)) (a .g .root) (a .x) (a .len) (l .i) _ _ (omega (arith, m)) u,
       ),
     )
 
@@ -72,7 +72,7 @@ returns-2 : tie.Need-returns-2 Inv-loop μ-loop
 returns-2 c =
     let a = c .before .before .before .args in
     let l = c .before .loop in
-    sym (l .inv .1 .1 ∙ run-over (now (a .image)) (a .x) (a .len) (l .i) (c .loop-test .left))
+    sym (l .inv .1 .1 ∙ run-over (now (a .image)) (a .g .root) (a .x) (a .len) (l .i) (c .loop-test .left))
 
 pub next-rows-spec : {M : Type 1} → statement M
 next-rows-spec =

@@ -18,7 +18,7 @@ returns c =
     let b = c .before .before .before in
     let a = b .args in
     let e = c .before .piece .ensures in
-    c .next-rows .ensures ∙ sym (run-first (now (a .image)) (a .x) (a .len) _ _ (omega (arith, e)) (cluster-goes (a .g) (now (a .image)) (b .pre .0 .0) (a .x) (a .len) _ e))
+    c .next-rows .ensures ∙ sym (run-first (now (a .image)) (a .g .root) (a .x) (a .len) _ _ (omega (arith, e)) (cluster-goes (a .g) (now (a .image)) (b .pre .0 .0) (a .x) (a .len) _ e))
 
 pub run-length-spec : {M : Type 1} → statement M
 run-length-spec = tie.close (tie.spec (search needs) next-rows-requires returns)

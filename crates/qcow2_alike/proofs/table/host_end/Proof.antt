@@ -12,51 +12,67 @@ use Rattle.qcow2_alike.proofs.table.host_end.Statement.{statement}
 use Rattle.qcow2_alike.proofs.table.host_end.Tie as tie
 
 abbrev Inv-loop : tie.InvT-loop
-Inv-loop table from end h n bits c want₀ k₀ want k =
+Inv-loop table from end h n bits step want₀ k₀ want k =
     ((from ≤ k) × (k ≤ end))
-    × ((want ≡ 9223372036854775808 + (h + (k - from) * 2 ^ bits))
+    × ((want ≡ 2 * (h + (k - from) * 2 ^ bits))
     × ((v : ℕ) → entriesEnd v (2 ^ bits) n table (Host h) from from end ≡ entriesEnd v (2 ^ bits) n table (Host h) from k end))
 
 abbrev μ-loop : tie.MeasureT-loop
-μ-loop table from end h n bits c want₀ k₀ want k = end - k
+μ-loop table from end h n bits step want₀ k₀ want k = end - k
 
 loop-holds : tie.Need-loop-holds Inv-loop μ-loop
 loop-holds c = ((omega arith, c .before .before .pre .0 .order), (rw (sub-self, zero-mul, add-zero), λ v. refl))
 
+-- an entry that is as wanted
+wanted : (h w t e : ℕ) → w ≡ 2 * h → t ≡ 2 * e → t ≡ w → e ≡ h
+wanted h w t e a b c = omega (arith, a, b, c)
+
+unwanted : (h w t e : ℕ) → w ≡ 2 * h → t ≡ 2 * e → (t ≡ w → ⊥) → e ≡ h → ⊥
+unwanted h w t e a b c d = c (omega (arith, a, b, d))
+
 returns : tie.Need-returns Inv-loop μ-loop
 returns c =
-    let b = c .before .before .before .before .before .before in
+    let d = c .before .before in
+    let l = d .before .before .loop in
+    let b = d .before .before .before .before .before in
     let a = b .args in
-    let l = c .before .before .before .loop in
     let p = b .pre .0 in
-    λ v. sym (l .inv .1 .1 v ∙ end-stop _ _ _ _ _ _ (l .k) (a .end) (c .before .before .loop-test .taken) (host-apart v (a .bits) (a .n) (now (a .table)) (a .from) (l .k) _ (c .before .load64 .ensures) (a .h) (p .low) (p .most) (λ z. c .if1 .taken (z ∙ sym (l .inv .1 .0)))))
+    λ v. sym (l .inv .1 .1 v ∙ end-stop _ _ _ _ _ _ (l .k) (a .end) (d .before .loop-test .taken) (host-apart v (a .bits) (a .n) (now (a .table)) (a .from) (l .k) _ (d .load64 .ensures) (a .h) (p .low) (p .most) (unwanted _ _ _ _ (l .inv .1 .0) (c .before .twice .ensures) (c .if1 .taken))))
 
-add-want-2 : tie.Need-add-want-2 Inv-loop μ-loop
-add-want-2 c =
-    let a = c .before .before .before .before .before .before .before .before .args in
-    omega (arith, c .before .before .if1 .left, plain-parts (a .bits) (a .n) (c .before .before .before .load64 .result) (sym (c .before .is-plain .ensures) ∙ c .if2 .taken) .inside, c .before .before .before .before .before .before .before .before .pre .0 .most, c .before .before .before .before .before .before .power .ensures .0)
+add-want : tie.Need-add-want Inv-loop μ-loop
+add-want c =
+    let t = c .before .before .before in
+    let o = t .before .before .before .before in
+    let b = o .before .before in
+    let a = b .args in
+    let p = plain-parts (a .bits) (a .n) (t .before .load64 .result) (sym (c .before .is-plain .ensures) ∙ c .if2 .taken) in
+    omega (arith, c .before .before .if1 .left, t .twice .ensures, p .inside, b .pre .0 .most, o .power .ensures .0)
 
 add-k : tie.Need-add-k Inv-loop μ-loop
-add-k c = omega (arith, c .before .before .before .before .before .before .before .before .pre .0 .inside)
+add-k c = omega (arith, c .before .before .before .before .before .before .before .before .before .pre .0 .inside)
 
 loop-again : tie.Need-loop-again Inv-loop μ-loop
 loop-again c =
-    let b = c .before .before .before .before .before .before .before .before in
+    let t = c .before .before .before in
+    let d = t .before in
+    let l = d .before .before .loop in
+    let o = d .before .before .before in
+    let b = o .before .before in
     let a = b .args in
-    let l = c .before .before .before .before .before .loop in
     let p = b .pre .0 in (
       (omega arith, omega arith),
       (
-        rw (c .before .before .before .before .before .before .power .ensures .0, l .inv .1 .0) (next-host (2 ^ a .bits) (a .h) (a .from) (l .k) (l .inv .0 .0)),
-        λ v. l .inv .1 .1 v ∙ end-turn _ _ _ _ _ _ (l .k) (a .end) (c .before .before .before .before .loop-test .taken) (host-goes v (a .bits) (a .n) (now (a .table)) (a .from) (l .k) _ (c .before .before .before .load64 .ensures) (a .h) (p .low) (p .most) (sym (c .before .is-plain .ensures) ∙ c .if2 .taken) (c .before .before .if1 .left ∙ l .inv .1 .0)),
+        omega (arith, o .power .ensures .0, l .inv .1 .0, next-host (2 ^ a .bits) (a .h) (a .from) (l .k) (l .inv .0 .0)),
+        λ v. l .inv .1 .1 v ∙ end-turn _ _ _ _ _ _ (l .k) (a .end) (d .before .loop-test .taken) (host-goes v (a .bits) (a .n) (now (a .table)) (a .from) (l .k) _ (d .load64 .ensures) (a .h) (p .low) (p .most) (sym (c .before .is-plain .ensures) ∙ c .if2 .taken) (wanted _ _ _ _ (l .inv .1 .0) (t .twice .ensures) (c .before .before .if1 .left))),
       ),
     )
 
 returns-2 : tie.Need-returns-2 Inv-loop μ-loop
 returns-2 c =
-    let a = c .before .before .before .before .before .before .before .before .args in
-    let l = c .before .before .before .before .before .loop in
-    λ v. sym (l .inv .1 .1 v ∙ end-stop _ _ _ _ _ _ (l .k) (a .end) (c .before .before .before .before .loop-test .taken) (host-not v (a .bits) (a .n) (now (a .table)) (a .from) (l .k) _ (c .before .before .before .load64 .ensures) (a .h) (sym (c .before .is-plain .ensures) ∙ c .if2 .left)))
+    let d = c .before .before .before .before in
+    let l = d .before .before .loop in
+    let a = d .before .before .before .before .before .args in
+    λ v. sym (l .inv .1 .1 v ∙ end-stop _ _ _ _ _ _ (l .k) (a .end) (d .before .loop-test .taken) (host-not v (a .bits) (a .n) (now (a .table)) (a .from) (l .k) _ (d .load64 .ensures) (a .h) (sym (c .before .is-plain .ensures) ∙ c .if2 .left)))
 
 returns-3 : tie.Need-returns-3 Inv-loop μ-loop
 returns-3 c =
@@ -67,5 +83,5 @@ pub host-end-spec : {M : Type 1} → statement M
 host-end-spec =
     tie.close
     (tie.spec
-    Inv-loop μ-loop (search needs) (search needs) loop-holds (search needs) (search needs) returns (search needs)
-    add-want-2 add-k (search needs) loop-again returns-2 returns-3)
+    Inv-loop μ-loop (search needs) (search needs) (search needs) loop-holds (search needs) (search needs) (search needs) returns (search needs)
+    add-want add-k (search needs) loop-again returns-2 returns-3)

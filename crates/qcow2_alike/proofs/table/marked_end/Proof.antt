@@ -20,7 +20,7 @@ loop-holds : tie.Need-loop-holds Inv-loop μ-loop
 loop-holds c = ((omega arith, c .before .pre .order), refl)
 
 is-marked-requires : tie.Need-is-marked-requires Inv-loop μ-loop
-is-marked-requires c κs = let p = c .before .before .before .before .pre in (p .high, p .least)
+is-marked-requires c κs = let p = c .before .before .before .before .pre in (p .high, (p .least, p .most))
 
 loop-again : tie.Need-loop-again Inv-loop μ-loop
 loop-again c =

@@ -5,28 +5,30 @@ use mathlib.Core.Bool.{_&&_}
 use lib.Dec.{eqb}
 use lib.ListN.{length}
 use denote.Ref.{now}
-use Rattle.qcow2_spec.specs.Entries.{goodL2}
 use Rattle.qcow2_spec.specs.References.{l2Refs}
-use Rattle.qcow2_refs.specs.Walks.{Walking, onFrom}
-use Rattle.qcow2_refs.proofs.Walks.{walking-first, walking-next, walking-last, front-few, walked-whole}
+use Rattle.qcow2_groups.specs.Walks.{passes, Walking, onFrom}
+use Rattle.qcow2_groups.proofs.Walks.{room-kept, walking-first, walking-next, walking-last, front-few, walked-whole}
 use Rattle.qcow2_refs.proofs.walk.walk_table.Statement.{statement}
 use Rattle.qcow2_refs.proofs.walk.walk_table.Tie as tie
 
 abbrev Inv-loop : tie.InvT-loop
-Inv-loop table scratch₀ version bits n per j₀ r₀ scratch j r =
-    (j ≤ per) × (length scratch ≡ length scratch₀) × (r ≤ j) × Walking (l2Refs version (2 ^ bits) n) (goodL2 version (2 ^ bits) n) (onFrom j₀ table) scratch₀ j₀ j₀ (onFrom j table) scratch r j
+Inv-loop table scratch₀ version bits n leaf per j₀ r₀ scratch j r =
+    (j ≤ per) × (length scratch ≡ length scratch₀) × (r ≤ j) × Walking leaf (l2Refs version (2 ^ bits) n) (passes leaf version (2 ^ bits) n) (onFrom j₀ table) scratch₀ j₀ j₀ (onFrom j table) scratch r j
 
 abbrev μ-loop : tie.MeasureT-loop
-μ-loop table scratch₀ version bits n per j₀ r₀ scratch j r = per - j
+μ-loop table scratch₀ version bits n leaf per j₀ r₀ scratch j r = per - j
 
 loop-holds : tie.Need-loop-holds Inv-loop μ-loop
 loop-holds c = (c .before .before .walk-good .ensures .0, refl, search needs, walking-first)
 
-walk-entry-requires : tie.Need-walk-entry-requires Inv-loop μ-loop
-walk-entry-requires c κs =
+walk-good-requires : tie.Need-walk-good-requires Inv-loop μ-loop
+walk-good-requires c κs = c .before .before .before .pre
+
+walk-any-requires : tie.Need-walk-any-requires Inv-loop μ-loop
+walk-any-requires c κs =
     let t = c .before .before .before in
     let p = t .before .before .before .before .before .before .before .pre in
-    record { low = p .low; high = p .high; some = p .some; small = p .small; fits = rw (t .loop .inv .1 ∙ t .before .before .before .walk-good .kept .1 .0) (p .fits) }
+    (room-kept (t .loop .inv .1 ∙ t .before .before .before .walk-good .kept .1 .0) (p .0), p .1)
 
 loop-again : tie.Need-loop-again Inv-loop μ-loop
 loop-again c =
@@ -34,9 +36,9 @@ loop-again c =
     let l = w .before .before in
     let t = l .before .before in
     let T = now (t .before .before .before .before .before .before .before .args .table) in
-    let r = w .walk-entry .ensures in
+    let r = w .walk-any .ensures in
     let i = t .loop .inv in
-    (search needs, search needs, rw (c .front .ensures) (front-few (eqb (t .loop .r) (t .loop .j) && w .walk-entry .result) (t .loop .r) (t .loop .j) (i .2)), walking-next (length T / 8) (t .loop .r) (t .loop .j) T (i .3) (l .before .loop-test .taken) (i .2) (rw (← l .load64 .ensures) (r .1)) (rw (← l .load64 .ensures, ← r .0) (c .front .ensures)))
+    (search needs, search needs, rw (c .front .ensures) (front-few (eqb (t .loop .r) (t .loop .j) && w .walk-any .result) (t .loop .r) (t .loop .j) (i .2)), walking-next (length T / 8) (t .loop .r) (t .loop .j) T (i .3) (l .before .loop-test .taken) (i .2) (rw (← l .load64 .ensures) (r .1)) (rw (← l .load64 .ensures, ← r .0) (c .front .ensures)))
 
 returns : tie.Need-returns Inv-loop μ-loop
 returns c =
@@ -51,11 +53,11 @@ walk-table-spec =
     (tie.spec
     Inv-loop
     μ-loop
-    (search needs)
+    walk-good-requires
     loop-holds
     (search needs)
     (search needs)
-    walk-entry-requires
+    walk-any-requires
     (search needs)
     (search needs)
     (search needs)

@@ -17,14 +17,14 @@ returns : tie.Need-returns
 returns c =
     let b = c .before .before .before .before .before in
     let a = b .args in
-    whole-row (now (a .image)) (a .x) (a .i) (a .left) (a .f) _ (b .pre .0 .1)
+    whole-row (now (a .image)) (a .g .root) (a .x) (a .i) (a .left) (a .f) _ (b .pre .0 .1)
     (bad-found (a .g) (now (a .image)) (b .pre .0 .0) (a .x + a .i) (a .left) (b .pre .1 .0 .row) (sym (c .before .before .enum-told .given .1) ∙ b .pre .1 .1)) (refused-still 12 (a .f)) _ _ (c .before .same .ensures) (c .all-if .ensures)
 
 returns-2 : tie.Need-returns-2
 returns-2 c =
     let b = c .before .before .before .before .before in
     let a = b .args in
-    whole-row (now (a .image)) (a .x) (a .i) (a .left) (a .f) _ (b .pre .0 .1)
+    whole-row (now (a .image)) (a .g .root) (a .x) (a .i) (a .left) (a .f) _ (b .pre .0 .1)
     (empty-found (a .g) (now (a .image)) (b .pre .0 .0) (a .x + a .i) (a .left) (b .pre .1 .0 .row) (sym (c .before .before .enum-told2 .given .1) ∙ b .pre .1 .1)) (absent-still (a .f)) _ _ (c .before .same2 .ensures) (c .all-if2 .ensures)
 
 returns-3 : tie.Need-returns-3

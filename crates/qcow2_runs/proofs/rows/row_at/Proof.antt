@@ -1,9 +1,7 @@
-use native.Mathlib.Omega.{arith}
+use borrow.Author.Needs.{needs}
 use mathlib.Core.Path.{sym, _∙_}
 use denote.Ref.{now}
-use lib.ListN.{length}
 use Rattle.qcow2_spec.proofs.Facts.{facts, c-in}
-use Rattle.qcow2_entry.proofs.Plain.{plain-parts}
 use Rattle.qcow2_runs.proofs.Levels.{is-empty, is-tableat, is-bad}
 use Rattle.qcow2_runs.proofs.rows.row_at.Statement.{statement}
 use Rattle.qcow2_runs.proofs.rows.row_at.Tie as tie
@@ -20,17 +18,12 @@ is-plain-requires : tie.Need-is-plain-requires
 is-plain-requires c κs =
     let b = c .before .before .before in
     let o = b .pre .0 in
-    (o .high, rw (o .is-cluster) (c-in (now (b .args .image)) (facts (now (b .args .image)) (o .accepted))))
-
-sub-t9 : tie.Need-sub-t9
-sub-t9 c =
-    let a = c .before .before .before .before .before .args in
-    omega (arith, plain-parts (a .g .bits) (length (now (a .image))) _ (sym (c .before .is-plain .ensures) ∙ c .if2 .taken) .high)
+    (o .high, (rw (o .is-cluster) (c-in (now (b .args .image)) (facts (now (b .args .image)) (o .accepted))), o .short))
 
 returns-2 : tie.Need-returns-2
 returns-2 c =
-    let b = c .before .before .before .before .before in
-    is-tableat (b .args .g) (now (b .args .image)) (b .pre .0) (b .args .guest) _ (c .before .before .before .l1-entry .ensures) (sym (c .before .is-plain .ensures) ∙ c .if2 .taken)
+    let b = c .before .before .before .before .before .before in
+    rw (c .bare-of .ensures .0) (is-tableat (b .args .g) (now (b .args .image)) (b .pre .0) (b .args .guest) _ (c .before .before .before .before .l1-entry .ensures) (sym (c .before .before .is-plain .ensures) ∙ c .before .if2 .taken))
 
 returns-3 : tie.Need-returns-3
 returns-3 c =
@@ -38,4 +31,4 @@ returns-3 c =
     is-bad (b .args .g) (now (b .args .image)) (b .pre .0) (b .args .guest) _ (c .before .before .before .l1-entry .ensures) (sym (c .before .is-plain .ensures) ∙ c .if2 .left) (c .before .before .if1 .left)
 
 pub row-at-spec : {M : Type 1} → statement M
-row-at-spec = tie.close (tie.spec l1-entry-requires returns is-plain-requires sub-t9 returns-2 returns-3)
+row-at-spec = tie.close (tie.spec l1-entry-requires returns is-plain-requires (search needs) returns-2 returns-3)

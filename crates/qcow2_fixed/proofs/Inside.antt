@@ -1,0 +1,49 @@
+-- The L1 tables and the snapshot table of an accepted image lie among its clusters.
+-- Assumes nothing.
+use Prim.Native.Nat.{ℕ, zero, suc, _+_, _-_, _*_, _/_, _%_, _^_, _≤_}
+use mathlib.Core.Path.{_≡_, refl, sym, _∙_}
+use mathlib.Core.Logic.{_≢_}
+use mathlib.Core.List.{List}
+use native.Mathlib.Omega.{arith}
+use lib.ListN.{length}
+use Rattle.choice.specs.Pick.{ceilDiv}
+use Rattle.qcow2_spec.specs.Header.{mostL1, mostSnapshots, snapshots, snapshotAt, roots}
+use Rattle.qcow2_spec.specs.Opened.{Opened}
+use Rattle.qcow2_spec.specs.declared.Geometry.{Geometry}
+use Rattle.qcow2_spec.proofs.Facts.{Facts, facts, root-count, shot-start, shot-before}
+use Rattle.qcow2_fixed.proofs.Runs.{run-ceil}
+
+module _ (g : Geometry) (s : List ℕ) (o : Opened g s) where
+  f : Facts s
+  f = facts s (o .accepted)
+
+  pub roots-are : roots s ≡ g .snapshots + 1
+  roots-are = omega (arith, root-count s f, o .is-snapshots)
+
+  pub shots-few : g .snapshots ≤ mostSnapshots
+  shots-few = omega (arith, o .is-snapshots, f .some)
+
+  pub root-short : g .l1size ≤ mostL1
+  root-short = omega (arith, o .is-l1size, o .few)
+
+  pub root-fits : g .l1at / 2 ^ g .bits + ceilDiv (8 * g .l1size) (2 ^ g .bits) ≤ g .clusters
+  root-fits = run-ceil (g .l1at) (g .clusters) (g .bits) (o .l1-whole) (8 * g .l1size) (omega (arith, o .l1-fits, o .is-l1at, o .is-l1size, o .whole))
+
+  module _ (some : g .snapshots ≢ 0) where
+    ends : (n : ℕ) → n ≡ snapshots s → snapshotAt s n ≤ length s
+    ends zero e = absurd (some (o .is-snapshots ∙ sym e))
+    ends (suc k) e = f .shots k (omega arith) .ends
+
+    pub shots-inside : snapshotAt s (snapshots s) ≤ length s
+    shots-inside = ends (snapshots s) refl
+
+    pub shots-after : g .snapshotsat ≤ snapshotAt s (snapshots s)
+    shots-after = omega (arith, o .is-snapshotsat, shot-start s f, shot-before s f (snapshots s) 0 (omega arith))
+
+    starts : g .snapshotsat % 2 ^ g .bits ≡ 0
+    starts = rw (o .is-snapshotsat, o .is-cluster) (f .shots-whole (λ e. some (o .is-snapshots ∙ e)))
+
+    pub shots-fit : (end : ℕ) → end ≡ snapshotAt s (snapshots s)
+        → g .snapshotsat / 2 ^ g .bits + ceilDiv (end - g .snapshotsat) (2 ^ g .bits) ≤ g .clusters
+    shots-fit end e =
+        run-ceil (g .snapshotsat) (g .clusters) (g .bits) starts (end - g .snapshotsat) (omega (arith, shots-after, shots-inside, e, o .whole))

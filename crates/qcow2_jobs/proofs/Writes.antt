@@ -1,0 +1,89 @@
+-- What a write is found to be. Assumes nothing.
+use Prim.Native.Nat.{ℕ, _+_, _-_, _*_, _^_, _≤_, _<_}
+use native.Mathlib.Omega.{arith}
+use mathlib.Core.Path.{_≡_, _∙_}
+use mathlib.Core.Bool.{true, false}
+use mathlib.Core.List.{List}
+use lib.ListN.{length}
+use borrow.Author.Tests.{eq-eqb, ne-eqb, le-leb, lt-leb}
+use Rattle.choice.proofs.Runs.{first-low, first-high}
+use Rattle.widths.specs.Width.{Inside}
+use Rattle.qcow2_spec.specs.Header.{clusters, width}
+use Rattle.qcow2_spec.specs.Entries.{place, zeroMark}
+use Rattle.qcow2_spec.specs.Counts.{countAt, setCount, freeAt, freeFrom}
+use Rattle.qcow2_spec.specs.Store.{allot, writeSlot, writeNew, writeTable, writeWay}
+use Rattle.qcow2_spec.specs.Opened.{Opened}
+use Rattle.qcow2_spec.specs.Ready.{Slotted}
+use Rattle.qcow2_spec.specs.declared.Geometry.{Geometry}
+use Rattle.qcow2_spec.specs.declared.Way.{Way}
+use Rattle.qcow2_spec.specs.declared.Way.the-variants.{Bad, NoTable, Slot}
+use Rattle.qcow2_put.specs.Links.{Linked, places, tableUnits}
+use Rattle.qcow2_jobs.specs.Jobs.{Decides}
+use Rattle.qcow2_put.specs.declared.linking.Places.{Places}
+use Rattle.qcow2_jobs.specs.declared.finding.Job.the-variants.{Bytes, Marked, New, Table}
+use Rattle.qcow2_jobs.specs.declared.finding.Decision.{Decision}
+use Rattle.qcow2_jobs.specs.declared.finding.Decision.the-variants.{Refuse, Store}
+use Rattle.qcow2_counts.proofs.Sizes.{inside-at}
+use Rattle.qcow2_jobs.proofs.Slots.{placed-at}
+
+-- where a free cluster is
+pub free-most : (s : List ℕ) → freeFrom s 0 ≤ clusters s
+unfolding freeFrom
+free-most s = omega (arith, first-high (freeAt s) 0 (clusters s - 0))
+
+pub free-least : (s : List ℕ) (i : ℕ) → i ≤ freeFrom s i
+unfolding freeFrom
+free-least s i = first-low (freeAt s) i (clusters s - i)
+
+module _ (g : Geometry) (s : List ℕ) (o : Opened g s) where
+  -- a new cluster k, or none
+  module _ (at k : ℕ) where
+    pub full : g .clusters ≤ k → Decides (length s) (2 ^ g .bits) (Refuse 14) (writeNew s at k)
+    unfolding writeNew
+    full h = record { same = λ i d. rw (le-leb (clusters s) k (rw (o .is-clusters) at h)); inside = tt }
+
+    pub newly : (n c : ℕ) → k < g .clusters → at + 8 ≤ length s → n ≡ countAt s k → Inside (g .order) (length s) n → c ≡ 2 ^ g .bits
+        → Decides (length s) (2 ^ g .bits) (Store (New (g .order) n at (k * c))) (writeNew s at k)
+    unfolding writeNew allot setCount
+    newly n c h a e m f =
+        record { same = λ i d. rw (lt-leb (clusters s) k (rw (o .is-clusters) at h), e, f, o .is-cluster, o .is-width); inside = (m, (a, rw (← f) (inside-at g s o k c h f))) }
+
+  -- a new L2 table t and a new cluster k, or none
+  module _ (x t k : ℕ) where
+    pub full-table : g .clusters ≤ k → Decides (length s) (2 ^ g .bits) (Refuse 14) (writeTable s x t k)
+    unfolding writeTable
+    full-table h = record { same = λ i d. rw (le-leb (clusters s) k (rw (o .is-clusters) at h)); inside = tt }
+
+    pub tabled : (p : Places) → k < g .clusters → p ≡ places s x t k → Linked (length s) p (2 ^ g .bits) → Decides (length s) (2 ^ g .bits) (Store (Table p)) (writeTable s x t k)
+    unfolding writeTable tableUnits allot setCount places width
+    tabled p h e l = record { same = λ i d. rw (lt-leb (clusters s) k (rw (o .is-clusters) at h), e, o .is-cluster); inside = l }
+
+-- the entry e stands at a place
+module _ (g : Geometry) (s : List ℕ) (at e : ℕ) (o : Slotted g s at e) where
+  pub slot-new : (x : Decision) → place e ≡ 0 → Decides (length s) (2 ^ g .bits) x (writeNew s at (freeFrom s 0)) → Decides (length s) (2 ^ g .bits) x (writeSlot s at e)
+  unfolding writeSlot
+  slot-new x z h = record { same = λ i d. rw (eq-eqb (place e) 0 z) (h .same i d); inside = h .inside }
+
+  module _ (p : ℕ) (f : p ≡ place e) (z : p ≡ 0 → ⊥) where
+    pub slot-marked : zeroMark e ≡ true → Decides (length s) (2 ^ g .bits) (Store (Marked at p)) (writeSlot s at e)
+    unfolding writeSlot
+    slot-marked m =
+        record { same = λ i d. rw (ne-eqb (place e) 0 (λ q. z (f ∙ q)), m, f, o .opened .is-cluster); inside = (o .inside, rw f (placed-at g s at e o .inside)) }
+
+    pub slot-bytes : zeroMark e ≡ false → Decides (length s) (2 ^ g .bits) (Store (Bytes p)) (writeSlot s at e)
+    unfolding writeSlot
+    slot-bytes m = record { same = λ i d. rw (ne-eqb (place e) 0 (λ q. z (f ∙ q)), m, f); inside = rw f (placed-at g s at e o .inside) }
+
+-- by the way w to guest cluster x
+module _ (s : List ℕ) (n c : ℕ) (w : Way) (x : ℕ) where
+  pub write-bad : (k : ℕ) → w ≡ Bad k → Decides n c (Refuse k) (writeWay s w x)
+  unfolding writeWay
+  write-bad k q = record { same = λ i d. rw q; inside = tt }
+
+  pub write-none : (r : Decision) → w ≡ NoTable → Decides n c r (writeTable s x (freeFrom s 0) (freeFrom s (freeFrom s 0 + 1))) → Decides n c r (writeWay s w x)
+  unfolding writeWay
+  write-none r q h = record { same = λ i d. rw q (h .same i d); inside = h .inside }
+
+  pub write-there : (r : Decision) (p e : ℕ) → w ≡ Slot p e → Decides n c r (writeSlot s p e) → Decides n c r (writeWay s w x)
+  unfolding writeWay
+  write-there r p e q h = record { same = λ i d. rw q (h .same i d); inside = h .inside }

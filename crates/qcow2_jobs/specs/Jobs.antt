@@ -1,0 +1,68 @@
+-- What a write or a discard is found to be before anything is stored: a refusal or units, with every place and value given.
+-- Assumes nothing.
+use Prim.Native.Nat.{ℕ, _+_, _^_, _≤_}
+use mathlib.Core.Path.{_≡_}
+use mathlib.Core.List.{List, [], _∷_, _++_}
+use Rattle.widths.specs.Width.{Inside}
+use Rattle.units.specs.Units.{UnitStore, count, entry, fill, cluster}
+use Rattle.units.specs.Plan.{Plan, refused, units}
+use Rattle.qcow2_spec.specs.Entries.{newEntry}
+use Rattle.qcow2_put.specs.Links.{Linked, tableUnits}
+use Rattle.qcow2_jobs.specs.declared.finding.Job.{Job}
+use Rattle.qcow2_jobs.specs.declared.finding.Job.the-variants.{Bytes, Marked, New, Table}
+use Rattle.qcow2_jobs.specs.declared.finding.Decision.{Decision}
+use Rattle.qcow2_jobs.specs.declared.finding.Decision.the-variants.{Refuse, Store}
+use Rattle.qcow2_jobs.specs.declared.releasing.Freed.{Freed}
+use Rattle.qcow2_jobs.specs.declared.releasing.Freed.the-variants.{Entry, Both}
+use Rattle.qcow2_jobs.specs.declared.releasing.Release.{Release}
+use Rattle.qcow2_jobs.specs.declared.releasing.Release.the-variants.{Refuse as NotReleased, Nothing, Store as Released}
+
+-- ---- a write of d from byte o of a cluster of c bytes on
+abbrev pub jobUnits : Job → (c o : ℕ) → List ℕ → List UnitStore
+jobUnits (Bytes p) c o d = fill (p + o) d
+jobUnits (Marked a p) c o d = fill p (cluster c o d) ++ entry a (newEntry p) ∷ []
+jobUnits (New r n a p) c o d = (count (2 ^ r) n 1 ∷ fill p (cluster c o d)) ++ entry a (newEntry p) ∷ []
+jobUnits (Table p) c o d = tableUnits p c o d
+
+abbrev pub jobPlan : Decision → (c o : ℕ) → List ℕ → Plan
+jobPlan (Refuse k) c o d = refused k
+jobPlan (Store j) c o d = units (jobUnits j c o d)
+
+-- its places lie in an image of n bytes
+abbrev pub JobIn : (n c : ℕ) → Job → Type 0
+JobIn n c (Bytes p) = p + c ≤ n
+JobIn n c (Marked a p) = (a + 8 ≤ n) × (p + c ≤ n)
+JobIn n c (New r k a p) = Inside r n k × ((a + 8 ≤ n) × (p + c ≤ n))
+JobIn n c (Table p) = Linked n p c
+
+abbrev pub DecisionIn : (n c : ℕ) → Decision → Type 0
+DecisionIn n c (Refuse k) = Unit {0}
+DecisionIn n c (Store j) = JobIn n c j
+
+-- the decision is the plan, whatever the data, and lies in the image
+pub record Decides (n c : ℕ) (x : Decision) (plan : (o : ℕ) → List ℕ → Plan) : Type 0 where
+  pub same : (o : ℕ) (d : List ℕ) → jobPlan x c o d ≡ plan o d
+  pub inside : DecisionIn n c x
+
+-- ---- a discard
+abbrev pub freedUnits : Freed → List UnitStore
+freedUnits (Entry a) = entry a 0 ∷ []
+freedUnits (Both a r k v) = entry a 0 ∷ count (2 ^ r) k v ∷ []
+
+abbrev pub releasePlan : Release → Plan
+releasePlan (NotReleased k) = refused k
+releasePlan Nothing = units []
+releasePlan (Released f) = units (freedUnits f)
+
+abbrev pub FreedIn : (n : ℕ) → Freed → Type 0
+FreedIn n (Entry a) = a + 8 ≤ n
+FreedIn n (Both a r k v) = (a + 8 ≤ n) × Inside r n k
+
+abbrev pub ReleaseIn : (n : ℕ) → Release → Type 0
+ReleaseIn n (NotReleased k) = Unit {0}
+ReleaseIn n Nothing = Unit {0}
+ReleaseIn n (Released f) = FreedIn n f
+
+pub record Releases (n : ℕ) (r : Release) (plan : Plan) : Type 0 where
+  pub same : releasePlan r ≡ plan
+  pub inside : ReleaseIn n r

@@ -1,0 +1,70 @@
+// What a discard is to store, once the way is found: the places and the count, worked out from the image before the first store.
+ghost use Prim.Native.Nat.{_+_, _-_, _≤_, _<_};
+ghost use mathlib.Core.List.{[], _∷_};
+ghost use lib.Dec.{eqb};
+ghost use lib.ListN.{length};
+ghost use Rattle.choice.specs.Pick.{if_then_else_};
+ghost use Rattle.units.specs.Units.{entry};
+ghost use Rattle.units.specs.Plan.{refused, units as planned};
+ghost use Rattle.qcow2_spec.specs.Counts.{countOf, setCount};
+ghost use Rattle.qcow2_spec.specs.Store.{discardSlot, discardWay};
+ghost use Rattle.qcow2_spec.specs.Opened.{Opened};
+ghost use Rattle.qcow2_spec.specs.Ready.{Slotted, Ready};
+ghost use Rattle.qcow2_jobs.specs.Jobs.{Releases};
+use qcow2_spec::Geometry;
+use qcow2_spec::Way;
+
+// The entry at a place is cleared; or that, and then the count of some width at another, a bit's, becomes a number.
+pub enum Freed {
+    Entry(usize),
+    Both(usize, u32, usize, u64),
+}
+
+// A number, nothing to do, or what is to be stored.
+pub enum Release {
+    Refuse(u8),
+    Nothing,
+    Store(Freed),
+}
+
+// The entry at a place, which names cluster k, is given up.
+fn find_count(image: &[u8], g: Geometry, at: usize, k: usize) -> Release
+    requires { ⌜ Opened g (now image) × ((at + 8 ≤ length (now image)) × (k < g .clusters)) ⌝ }
+    ensures { λ r. ⌜ Releases (length (now (image .entry))) r (if eqb (countOf (now (image .entry)) k) 0 then refused 16 else planned (entry at 0 ∷ setCount (now (image .entry)) k (countOf (now (image .entry)) k - 1) ∷ [])) ⌝ }
+{
+    let count_at = qcow2_counts::count_at(image, g, k);
+    let n = widths::load(image, g.order, count_at);
+    if n == 0 {
+        return Release::Refuse(16);
+    }
+    let freed = Freed::Both(at, g.order, count_at, n - 1);
+    Release::Store(freed)
+}
+
+// A discard where the entry e stands at a place.
+fn find_slot(image: &[u8], g: Geometry, at: usize, e: u64) -> Release
+    requires { ⌜ Slotted g (now image) at e ⌝ }
+    ensures { λ r. ⌜ Releases (length (now (image .entry))) r (discardSlot (now (image .entry)) at e) ⌝ }
+{
+    if e == 0 {
+        return Release::Nothing;
+    }
+    let p = qcow2_entry::place_of(e);
+    if p == 0 {
+        let freed = Freed::Entry(at);
+        return Release::Store(freed);
+    }
+    find_count(image, g, at, power::quotient(p, g.bits) as usize)
+}
+
+// A discard, with the way to the guest cluster.
+pub fn find_release(image: &[u8], g: Geometry, way: Way, guest: u64) -> Release
+    requires { ⌜ Opened g (now image) × Ready g (now image) way guest ⌝ }
+    ensures { λ r. ⌜ Releases (length (now (image .entry))) r (discardWay (now (image .entry)) way) ⌝ }
+{
+    match way {
+        Way::Bad(k) => Release::Refuse(k),
+        Way::NoTable => Release::Nothing,
+        Way::Slot(at, e) => find_slot(image, g, at, e),
+    }
+}
