@@ -109,6 +109,22 @@ module _ (kind v b n e : ℕ) (least : 9 ≤ b) (small : n ≤ mostLength) (word
           ways (inl m) = low-stepped m
           ways (inr w) = absurd (past w)
 
+  -- y is the difference of e and 2^63 + 2, which wraps round, in a walk that counts alone
+  pub no-own : kind ≡ 0 → (y : ℕ) → (y + (2 ^ 63 + 2)) % 2 ^ 64 ≡ e → y < 2 ^ 64 → n - 2 ≤ y → Stepped kind v (2 ^ b) n e s (leb e (markOf v)) s
+  no-own k y wraps far h = go (two-ways (leb e (markOf v))) (two-ways (goodL2 v (2 ^ b) n e))
+    where
+      go : (leb e (markOf v) ≡ true) ⊎ (leb e (markOf v) ≡ false) → (goodL2 v (2 ^ b) n e ≡ true) ⊎ (goodL2 v (2 ^ b) n e ≡ false) → Stepped kind v (2 ^ b) n e s (leb e (markOf v)) s
+      go (inl l) g = low-stepped (leb-true _ _ l)
+      go (inr l) (inr g) = rw l (stepped-not kind v (2 ^ b) n e s (bad-stops kind v (2 ^ b) n e g))
+      go (inr l) (inl g) = ways (good-ways v b n e least small word g)
+        where
+          ways : (e ≤ markOf v) ⊎ Placed v (2 ^ b) n x → Stepped kind v (2 ^ b) n e s (leb e (markOf v)) s
+          ways (inl m) = low-stepped m
+          ways (inr w) =
+              let f = placed-far v b n x least w in
+              let z : place e ≡ 0 → ⊥ = λ z. omega (arith, placed-at v b n e least small word w, w .some, z) in
+              rw l (stepped-not kind v (2 ^ b) n e s (common-stops kind v (2 ^ b) n e k (is-common e (omega (arith, f .0, f .1, wraps, far, h, word, small)) z)))
+
   pub bad-rest : 2 ≤ x → markOf v < x % 2 ^ b → Stepped kind v (2 ^ b) n e s false s
   bad-rest f r = go (two-ways (goodL2 v (2 ^ b) n e))
     where

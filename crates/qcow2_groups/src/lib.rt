@@ -15,11 +15,29 @@ fn marks(version: u32) -> u64
     if version == 3 { 1 } else { 0 }
 }
 
-// Visits what an L2 entry refers to where it passes, and says whether it does: it is good and, where references are counted alone, has bit 63
-// beside its place. Written over whole numbers, so that the entry is one load, and one test tells that there is a place: without bit 63 e is at
-// least 2 and less than n.
-pub fn walk_entry(scratch: &mut [u8], e: u64, version: u32, bits: u32, n: u64, kind: u16) -> bool
-    requires { ⌜ Room (now scratch) bits n × (kind < 512) ⌝ }
+// Counts what an L2 entry refers to where it passes a walk that counts alone, and says whether it does: it is good and has bit 63 beside its place.
+// Written over whole numbers, so that the entry is one load, and one test tells that there is a place with bit 63: e is at least 2^63 + 2 and less than
+// 2^63 + n.
+fn walk_own(scratch: &mut [u8], e: u64, version: u32, bits: u32, n: u64) -> bool
+    requires { ⌜ Room (now scratch) bits n ⌝ }
+    ensures { λ r. ⌜ (r ≡ passes 0 version (2 ^ bits) n e) × (now (scratch .exit) ≡ (if passes 0 version (2 ^ bits) n e then visitAll 0 (l2Refs version (2 ^ bits) n e) (now (scratch .entry)) else now (scratch .entry))) ⌝ }
+{
+    let mark = marks(version);
+    let y = std::num::wrapping_sub_u64(e, 9223372036854775810);
+    if n - 2 <= y {
+        return e <= mark;
+    }
+    let x = y + 2;
+    if power::rest(x, bits) > mark {
+        return false;
+    }
+    tally::visits::visit(scratch, power::quotient(x, bits) as usize, 0);
+    true
+}
+
+// The same by a kind that tells role and tree: bit 63 is not looked at. Without it e is at least 2 and less than n where there is a place.
+fn walk_role(scratch: &mut [u8], e: u64, version: u32, bits: u32, n: u64, kind: u16) -> bool
+    requires { ⌜ Room (now scratch) bits n × ((0 < kind) × (kind < 512)) ⌝ }
     ensures { λ r. ⌜ (r ≡ passes kind version (2 ^ bits) n e) × (now (scratch .exit) ≡ (if passes kind version (2 ^ bits) n e then visitAll kind (l2Refs version (2 ^ bits) n e) (now (scratch .entry)) else now (scratch .entry))) ⌝ }
 {
     let mark = marks(version);
@@ -31,13 +49,19 @@ pub fn walk_entry(scratch: &mut [u8], e: u64, version: u32, bits: u32, n: u64, k
     if power::rest(x, bits) > mark {
         return false;
     }
-    if kind == 0 {
-        if e == x {
-            return false;
-        }
-    }
     tally::visits::visit(scratch, power::quotient(x, bits) as usize, kind);
     true
+}
+
+// Visits what an L2 entry refers to where it passes, and says whether it does.
+pub fn walk_entry(scratch: &mut [u8], e: u64, version: u32, bits: u32, n: u64, kind: u16) -> bool
+    requires { ⌜ Room (now scratch) bits n × (kind < 512) ⌝ }
+    ensures { λ r. ⌜ (r ≡ passes kind version (2 ^ bits) n e) × (now (scratch .exit) ≡ (if passes kind version (2 ^ bits) n e then visitAll kind (l2Refs version (2 ^ bits) n e) (now (scratch .entry)) else now (scratch .entry))) ⌝ }
+{
+    if kind == 0 {
+        return walk_own(scratch, e, version, bits, n);
+    }
+    walk_role(scratch, e, version, bits, n, kind)
 }
 
 // Visits what an L2 entry refers to, and says whether it passes. One that is good and does not pass has a common place.
