@@ -14,9 +14,10 @@
  *     judges the header afresh and accepts any bytes whatever.
  *   - out, data, scratch: bytes of the caller, with their length.
  *   - rows: numbers of 64 bits of the caller, with how many there are.
- *   - host, units, first, second, third, count: one number each, stored by every
- *     call that takes it, whatever it answers. What it is after each answer
- *     stands at the call; what it was before is not looked at.
+ *   - host, units, first, second, third, count, cluster_bits, size, clusters: one
+ *     number each, stored by every call that takes it, whatever it answers. What
+ *     it is after each answer stands at the call; what it was before is not
+ *     looked at.
  *
  *   A pointer must not be NULL, also where its length is 0, and has to be good
  *   for its length. What a call writes to, bytes, rows or a number, must not
@@ -42,10 +43,10 @@
  *   0 is done: finished, sound, listed, or a host offset, as the call has it.
  *   1 to 999 is a refusal: the bytes of image, out and scratch and the rows are as
  *   they were, but for QCOW2_DAMAGED_IMAGE (17), which fills the scratch as the
- *   check does; and each of *host, *units, *first, *second, *third and *count
- *   that the call takes is 0. 1001 and up are the other answers. The header's
- *   numbers are tried first, in the order 1 to 8, 18, 9, 10, 21, then 15 or 11,
- *   then 12, 13 and 22 on the way through the tables, then 14 or 16.
+ *   check does; and each number that the call stores, as *host or *count, is 0.
+ *   1001 and up are the other answers. The header's numbers are tried first, in
+ *   the order 1 to 8, 18, 9, 10, 21, then 15 or 11, then 12, 13 and 22 on the way
+ *   through the tables, then 14 or 16.
  */
 #ifndef QCOW2_CORE_H
 #define QCOW2_CORE_H
@@ -143,6 +144,16 @@ extern "C" {
 #define QCOW2_MARK_L1 1011u
 /* Damaged, bit 63 of an L2 entry below the active L1 table is wrong (check). */
 #define QCOW2_MARK_L2 1012u
+
+/* ---- The header ---------------------------------------------------------- */
+
+/*
+ * What the header of an accepted image gives: QCOW2_DONE, and *cluster_bits, the
+ * disk's *size in bytes and the image's *clusters. Else 1 to 10, 18 or 21, and
+ * all three are 0.
+ */
+uint32_t qcow2_geometry(const uint8_t *image, size_t n, uint64_t *cluster_bits, uint64_t *size,
+                        uint64_t *clusters);
 
 /* ---- Reading ------------------------------------------------------------- */
 
@@ -246,6 +257,48 @@ uint32_t qcow2_discard(uint8_t *image, size_t n, uint64_t cluster, uint64_t allo
  */
 uint32_t qcow2_repair(uint8_t *image, size_t n, uint8_t *scratch, size_t m, uint64_t allowance,
                       uint64_t *units);
+
+/* ---- Steps ---------------------------------------------------------------
+ *
+ * For a store that runs a call on the image in memory and brings the bytes that
+ * it changed to a file or drive. Asked before the call is made, on the image as
+ * the call will be handed it, these list the call's steps. Each takes four
+ * numbers of rows:
+ *
+ *   where its bytes begin in the image
+ *   how many they are
+ *   how many units of the call's list they are: one for a count, an entry or the
+ *     autoclear field, else one for each byte
+ *   its epoch: 0 for the unit that clears the autoclear field, 2 for the one that
+ *     links, shows or frees what the others of epoch 1 made ready
+ *
+ * They come in the list's order. Between two steps of different epochs a flush
+ * must stand, so that all before it is stored when it returns; within one epoch
+ * the bytes may be stored in any order. On an image that a check calls sound or
+ * leaking no byte is in steps of two epochs, so the bytes may be taken from the
+ * image as the finished call leaves it. Then whatever sectors of 512 bytes a
+ * power cut leaves stored of an epoch, the image is sound or leaking, its
+ * snapshots are whole, and the guest bytes are what the header says of a call
+ * that was stopped.
+ *
+ * QCOW2_DONE: *count steps are listed, m / 4 at most (m numbers are lent), the
+ * first of them; the rest of rows is as it was. Else the number that the call
+ * would be refused with, *count is 0, and rows are as they were. A write has 7
+ * steps at most, a discard 3; a repair has one for each count that it sets, and
+ * one more where it clears the autoclear field.
+ */
+
+/* Of qcow2_write with len bytes, whatever they are. */
+uint32_t qcow2_write_steps(const uint8_t *image, size_t n, uint64_t offset, uint64_t len,
+                           uint64_t *rows, size_t m, uint64_t *count);
+
+/* Of qcow2_discard. */
+uint32_t qcow2_discard_steps(const uint8_t *image, size_t n, uint64_t cluster, uint64_t *rows,
+                             size_t m, uint64_t *count);
+
+/* Of qcow2_repair. The scratch ends as the repair leaves it. */
+uint32_t qcow2_repair_steps(const uint8_t *image, size_t n, uint8_t *scratch, size_t scratch_len,
+                            uint64_t *rows, size_t m, uint64_t *count);
 
 /* ---- Checking ------------------------------------------------------------ */
 

@@ -1,8 +1,6 @@
 //! The calls that change guest clusters, one guest cluster each.
 
-use qcow2_core::Outcome;
-
-use crate::cuts;
+use qcow2_core::{Outcome, Step, STEP};
 
 #[derive(Clone, Copy)]
 pub enum Call<'a> {
@@ -18,28 +16,22 @@ impl Call<'_> {
         }
     }
 
-    pub fn guest_cluster(&self, bits: u32) -> u64 {
-        match *self {
-            Call::Write { offset, .. } => offset >> bits,
-            Call::Discard { cluster } => cluster,
-        }
-    }
-
-    /// The ends of the kinds in the call's list, see [`cuts`]; does the list
-    /// begin with the clearing unit?
-    pub fn cuts(&self, bits: u32, units: u64, clears: bool) -> Option<Vec<u64>> {
-        let others = units.checked_sub(clears.into())?;
-        let cuts = match self {
-            Call::Write { .. } => cuts::of_write(1 << bits, others),
-            Call::Discard { .. } => cuts::of_discard(others),
+    /// What the call is going to change in this image, or with which number it
+    /// will be refused.
+    pub fn steps(&self, image: &[u8]) -> Result<Vec<Step>, u32> {
+        let mut rows = [0; STEP * MOST];
+        let count = match *self {
+            Call::Write { offset, data } => {
+                qcow2_core::write_steps(image, offset, data.len() as u64, &mut rows)?
+            }
+            Call::Discard { cluster } => qcow2_core::discard_steps(image, cluster, &mut rows)?,
         };
-        if clears {
-            cuts.and_then(cuts::after_clearing)
-        } else {
-            cuts
-        }
+        Ok(Step::of_rows(&rows[..STEP * count]).collect())
     }
 }
+
+/// A write has the most steps.
+const MOST: usize = 7;
 
 /// A write as calls that each lie inside one guest cluster. The range does not
 /// run past the disk's end.

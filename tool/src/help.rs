@@ -138,9 +138,9 @@ qstore write IMAGE OFFSET [--json] [--allowance U]
 
 Writes standard input to the guest bytes from OFFSET on, guest cluster by guest
 cluster. The whole request is tried in memory first: if any part is refused,
-the file is not changed. The changes reach the file in the order of the core's
-list, each kind of unit flushed before the next, so that a power cut leaves an
-image that is sound or leaks.
+the file is not changed. Of each guest cluster what nothing leads to yet is
+stored and flushed before the entry that leads to it, so that a power cut leaves
+an image that is sound or leaks.
 
 What a snapshot holds is never changed: a write to it is refused (22).
 

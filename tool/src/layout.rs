@@ -131,28 +131,9 @@ impl Layout {
         Some((block as usize, cluster % per_block))
     }
 
-    /// The bytes in which a cluster's stored count stands. Counts of fewer than
-    /// eight bits share theirs with others.
-    pub fn count_at(&self, image: &[u8], cluster: usize) -> Option<Range<usize>> {
-        let (block, index) = self.block_of(image, cluster)?;
-        let span = self.width.span(index);
-        Some(block + span.start..block + span.end)
-    }
-
     pub fn count(&self, image: &[u8], cluster: usize) -> Option<u64> {
         let (block, index) = self.block_of(image, cluster)?;
         self.width.count(image.get(block..)?, index)
-    }
-
-    /// Where the counts of the image's clusters stand, block by block. The last
-    /// byte may also have counts past the image's end.
-    pub fn stored_counts<'a>(&'a self, image: &'a [u8]) -> impl Iterator<Item = Range<usize>> + 'a {
-        let per_block = self.per_block();
-        (0..self.clusters).step_by(per_block).filter_map(move |first| {
-            let (block, _) = self.block_of(image, first)?;
-            let counts = per_block.min(self.clusters - first);
-            Some(block..block + self.width.bytes_of(counts))
-        })
     }
 
     /// Clusters with stored count 0.

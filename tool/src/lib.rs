@@ -1,14 +1,13 @@
 //! `qstore`: the proved qcow2 core as a command over image files. The core
-//! works on the image in memory; this crate brings the changes to the file in
-//! the order of the core's list of units, so that a power cut leaves a file
-//! that the core has promised about.
+//! works on the image in memory and says which bytes a call changes and where a
+//! flush has to stand; this crate brings them to the file so, and a power cut
+//! leaves a file that the core has promised about.
 #![forbid(unsafe_code)]
 
 pub mod args;
 pub mod autoclear;
 pub mod call;
 pub mod commands;
-pub mod cuts;
 pub mod damage;
 pub mod date;
 pub mod disk;
@@ -30,12 +29,12 @@ pub mod number;
 pub mod obstacles;
 pub mod ordered;
 pub mod owners;
-pub mod places;
 pub mod progress;
 pub mod report;
 pub mod runs;
 pub mod sentences;
 pub mod snapshots;
-pub mod spot;
+pub mod steps;
+pub mod touched;
 pub mod walk;
 pub mod width;

@@ -1,38 +1,35 @@
-//! Brings what the core does in memory to the file, in the order of the core's
-//! list of units.
+//! Brings what the core does in memory to the file.
 //!
-//! A call is first run to its end in memory, to learn its units. Then it is run
-//! again from the image as it was on entry, with the allowance of each cut in
-//! turn, and what differs goes to the file and is flushed before the next. So a
-//! power cut leaves the units up to the last cut, and of the next kind:
-//! - the autoclear bits, one count or one entry: stored or not, since a sector
-//!   is stored whole or not at all, and none ever lies over a sector's end;
-//!   where counts share a byte, it comes with the others as they stand then:
-//!   those that the list set before are in the file, each by its own flush, and
-//!   the rest is as on entry, so that it is what just these units leave;
-//! - bytes of a fill: any of them, since a drive has its own order for sectors.
-//!   A fill goes to a cluster that nothing refers to or that has the zero mark,
-//!   where no read sees it; or it is data in place, where each byte is old or
-//!   new, which is all that is promised for a write that allots nothing.
+//! Before a call is made the core lists its steps: the bytes that it is going to
+//! change, in up to three epochs. The first clears the autoclear bits, the second
+//! makes ready what nothing leads to yet, or writes data in place, and the third
+//! is one entry or count that links, shows or frees. Then the call is made in
+//! memory, and its bytes go to the file epoch by epoch, with a flush after each
+//! that stored anything.
+//!
+//! So a power cut leaves the epochs before and, of the one at work, any sectors
+//! whatever: a drive keeps no order between two flushes. That the image is then
+//! sound or leaks, its snapshots are whole and each guest byte is old or new, of
+//! a call that allots or frees all old or all new, is proved
+//! (crates/qcow2_spec/specs/Series.antt, `LooseDemand3` and what follows it).
+//! What remains here is to store what the steps say and nothing else.
 //!
 //! Memory has the image once: the bytes as they were are loaded from the file.
 
 use std::io;
 use std::ops::Range;
 
-use qcow2_core::Outcome;
+use qcow2_core::{Geometry, Outcome, Step, STEP};
 
 use crate::call::Call;
-use crate::cuts::{self, Batch};
 use crate::disk::Disk;
 use crate::extents;
-use crate::layout::Layout;
-use crate::places::{self, Clusters, Way};
-use crate::spot::Spot;
+use crate::steps::{ranges, units, within};
+use crate::touched::Touched;
 
 pub struct Ordered<D> {
     disk: D,
-    pub layout: Layout,
+    pub geometry: Geometry,
     /// What the core works on; between calls it is what the file holds.
     work: Vec<u8>,
 }
@@ -44,24 +41,15 @@ pub enum Fault {
     Store(io::Error),
     /// After it nothing is known of what the drive holds.
     Flush(io::Error),
-    /// A list of a length that no call has, or stores where none should be.
+    /// A call that made other units than its steps have.
     Unexpected(u64),
 }
 
-/// A call that was run to its end in memory.
-struct Tried {
-    outcome: Outcome,
-    /// Where it may have stored.
-    touched: Vec<Range<usize>>,
-    /// Does its list begin with the clearing unit?
-    clears: bool,
-}
-
 impl<D: Disk> Ordered<D> {
-    /// An accepted image, whose bytes the disk holds. For [`Ordered::call`] it
-    /// has to be sound or leak.
-    pub fn new(disk: D, layout: Layout, image: Vec<u8>) -> Ordered<D> {
-        Ordered { disk, layout, work: image }
+    /// An image whose bytes the disk holds, or the number of its header. For
+    /// [`Ordered::call`] it has to be sound or leak.
+    pub fn new(disk: D, image: Vec<u8>) -> Result<Ordered<D>, u32> {
+        Ok(Ordered { disk, geometry: qcow2_core::geometry(&image)?, work: image })
     }
 
     pub fn image(&self) -> &[u8] {
@@ -80,88 +68,48 @@ impl<D: Disk> Ordered<D> {
         mut done: impl FnMut(u64),
     ) -> Result<Result<u64, (usize, u32)>, Fault> {
         let (mut total, mut refused) = (0, None);
-        let mut touched = Clusters::none(&self.layout);
+        let mut touched = Touched::none(&self.geometry);
         for (index, call) in calls.enumerate() {
-            let tried = self.run_whole(&call);
-            match tried.outcome {
-                Outcome::Refused(number) => {
-                    refused = Some((index, number));
-                    break;
-                }
-                Outcome::Finished(units) | Outcome::Stopped(units) => total += units,
+            let (outcome, steps) = self.run(&call, u64::MAX)?;
+            if let Outcome::Refused(number) = outcome {
+                refused = Some((index, number));
+                break;
             }
-            touched.add(&tried.touched);
+            total += units(&steps);
+            touched.add(&steps);
             done(index as u64 + 1);
         }
         for range in touched.runs() {
-            self.restore(range)?;
+            let place = range.start as u64;
+            self.disk.load(place, &mut self.work[range]).map_err(Fault::Load)?;
         }
         Ok(refused.map_or(Ok(total), Err))
     }
 
     /// One call, with its changes in the file. A refusal changes nothing.
     pub fn call(&mut self, call: &Call, allowance: u64) -> Result<Outcome, Fault> {
-        let Tried { mut outcome, touched, clears } = self.run_whole(call);
-        let Outcome::Finished(units) = outcome else { return Ok(outcome) };
-        let cuts = call.cuts(self.layout.bits, units, clears).ok_or(Fault::Unexpected(units))?;
-        let mut spots = self.spots(touched)?;
-        for cut in cuts::within(cuts, allowance) {
-            spots.iter().for_each(|spot| spot.put_back(&mut self.work));
-            outcome = call.run(&mut self.work, cut);
-            self.bring(&mut spots)?;
-        }
+        let (outcome, steps) = self.run(call, allowance)?;
+        self.bring(&steps, |_| ())?;
         Ok(outcome)
     }
 
-    /// Repairs the image, with its changes in the file, sector by sector in the
-    /// list's order. A sector has counts of one batch alone, so what the whole
-    /// repair leaves there is what a repair up to the batch's end leaves; only
-    /// where the allowance ends among its counts the core is asked again.
+    /// Repairs the image, with its changes in the file; `done` hears of the units
+    /// that are flushed, and of all.
     pub fn repair(
         &mut self,
         allowance: u64,
         mut done: impl FnMut(u64, u64),
     ) -> Result<Outcome, Fault> {
-        let mut scratch = vec![0; self.layout.scratch()];
-        let outcome = qcow2_core::repair(&mut self.work, &mut scratch, u64::MAX);
-        let Outcome::Finished(units) = outcome else { return Ok(outcome) };
-        let batches = cuts::of_repair(&self.layout, &self.disk, &self.work).map_err(Fault::Load)?;
-        if batches.iter().map(|batch| batch.units).sum::<u64>() != units {
-            return Err(Fault::Unexpected(units));
-        }
-        let mut spent = 0;
-        for (index, batch) in batches.iter().enumerate() {
-            if allowance - spent < batch.units {
-                let outcome =
-                    self.repair_part(&batches[index..], &mut scratch, allowance - spent)?;
-                done(allowance, units);
-                return Ok(match outcome {
-                    Outcome::Refused(number) => Outcome::Refused(number),
-                    Outcome::Finished(_) | Outcome::Stopped(_) => Outcome::Stopped(allowance),
-                });
-            }
-            let mut spots = self.spots(vec![batch.sector.clone()])?;
-            self.bring(&mut spots)?;
-            spent += batch.units;
-            done(spent, units);
-        }
-        Ok(Outcome::Finished(units))
-    }
-
-    /// An allowance that ends among the counts of the first of these batches,
-    /// none of which is in the file.
-    fn repair_part(
-        &mut self,
-        batches: &[Batch],
-        scratch: &mut [u8],
-        left: u64,
-    ) -> Result<Outcome, Fault> {
-        for batch in batches {
-            self.restore(batch.sector.clone())?;
-        }
-        let mut spots = self.spots(vec![batches[0].sector.clone()])?;
-        let outcome = qcow2_core::repair(&mut self.work, scratch, left);
-        self.bring(&mut spots)?;
+        let mut scratch = vec![0; self.geometry.scratch()];
+        let steps = match repair_steps(&self.work, &self.geometry, &mut scratch) {
+            Ok(steps) => steps,
+            Err(number) => return Ok(Outcome::Refused(number)),
+        };
+        let total = units(&steps);
+        let steps = within(steps, allowance);
+        let outcome = qcow2_core::repair(&mut self.work, &mut scratch, allowance);
+        is_told(outcome, &steps)?;
+        self.bring(&steps, |units| done(units, total))?;
         Ok(outcome)
     }
 
@@ -171,37 +119,62 @@ impl<D: Disk> Ordered<D> {
         extents::holds(&self.disk, &self.work)
     }
 
-    fn run_whole(&mut self, call: &Call) -> Tried {
-        let guest = call.guest_cluster(self.layout.bits);
-        let before = Way::of(&self.layout, &self.work, guest);
-        let outcome = call.run(&mut self.work, u64::MAX);
-        let after = Way::of(&self.layout, &self.work, guest);
-        let touched = match outcome {
-            Outcome::Refused(_) | Outcome::Finished(0) => Vec::new(),
-            _ => places::touched(&self.layout, &self.work, guest, [before, after]),
+    /// Makes a call in memory: how it ended, and the steps that it made.
+    fn run(&mut self, call: &Call, allowance: u64) -> Result<(Outcome, Vec<Step>), Fault> {
+        let steps = match call.steps(&self.work) {
+            Ok(steps) => within(steps, allowance),
+            Err(number) => return Ok((Outcome::Refused(number), Vec::new())),
         };
-        Tried { outcome, touched, clears: before.is_cleared(&after) }
+        let outcome = call.run(&mut self.work, allowance);
+        is_told(outcome, &steps)?;
+        Ok((outcome, steps))
     }
 
-    fn restore(&mut self, range: Range<usize>) -> Result<(), Fault> {
-        self.disk.load(range.start as u64, &mut self.work[range]).map_err(Fault::Load)
-    }
-
-    /// These ranges as the file has them.
-    fn spots(&self, ranges: Vec<Range<usize>>) -> Result<Vec<Spot>, Fault> {
-        let load = |range| Spot::load(&self.disk, range).map_err(Fault::Load);
-        ranges.into_iter().map(load).collect()
-    }
-
-    /// Stores what differs in these places and flushes it.
-    fn bring(&mut self, spots: &mut [Spot]) -> Result<(), Fault> {
-        let mut stored = false;
-        for spot in spots {
-            stored |= spot.bring(&mut self.disk, &self.work).map_err(Fault::Store)?;
-        }
-        if stored {
-            self.disk.flush().map_err(Fault::Flush)?;
+    /// Stores the steps' bytes as memory has them, and flushes after each epoch
+    /// that stored anything; `done` hears of the units up to there.
+    fn bring(&mut self, steps: &[Step], mut done: impl FnMut(u64)) -> Result<(), Fault> {
+        let mut spent = 0;
+        for epoch in steps.chunk_by(|one, next| one.epoch == next.epoch) {
+            let mut stored = false;
+            for range in ranges(epoch) {
+                stored |= self.store(range)?;
+            }
+            if stored {
+                self.disk.flush().map_err(Fault::Flush)?;
+            }
+            spent += units(epoch);
+            done(spent);
         }
         Ok(())
+    }
+
+    /// Stores what differs in this range: whether anything does.
+    fn store(&mut self, range: Range<usize>) -> Result<bool, Fault> {
+        let mut held = vec![0; range.len()];
+        self.disk.load(range.start as u64, &mut held).map_err(Fault::Load)?;
+        let new = &self.work[range.clone()];
+        let differs = |(old, new): (&u8, &u8)| old != new;
+        let Some(first) = held.iter().zip(new).position(differs) else { return Ok(false) };
+        let last = held.iter().zip(new).rposition(differs).unwrap_or(first);
+        let place = (range.start + first) as u64;
+        self.disk.store(place, &new[first..=last]).map_err(Fault::Store)?;
+        Ok(true)
+    }
+}
+
+/// A step for each count that is set, and one that clears the autoclear bits.
+/// The rows that are not filled take no memory.
+fn repair_steps(image: &[u8], geometry: &Geometry, scratch: &mut [u8]) -> Result<Vec<Step>, u32> {
+    let mut rows = vec![0; STEP * (geometry.clusters + 1)];
+    let count = qcow2_core::repair_steps(image, scratch, &mut rows)?;
+    Ok(Step::of_rows(&rows[..STEP * count]).collect())
+}
+
+/// Has the call made the units that its steps have?
+fn is_told(outcome: Outcome, steps: &[Step]) -> Result<(), Fault> {
+    match outcome {
+        Outcome::Finished(made) | Outcome::Stopped(made) if made == units(steps) => Ok(()),
+        Outcome::Finished(made) | Outcome::Stopped(made) => Err(Fault::Unexpected(made)),
+        Outcome::Refused(number) => Err(Fault::Unexpected(number.into())),
     }
 }

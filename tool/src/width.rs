@@ -46,17 +46,6 @@ impl Width {
         let shift = (index << self.order) % 8;
         Some(number >> shift & (u64::MAX >> (64 - self.bits())))
     }
-
-    /// How many counts of two runs of one length are not the same.
-    pub fn differing(self, old: &[u8], new: &[u8]) -> usize {
-        // Eight bytes are whole counts at any width; most are the same.
-        let parts = old.chunks(8).zip(new.chunks(8)).filter(|(old, new)| old != new);
-        let counts = |(old, new): (&[u8], &[u8])| {
-            let differs = |&index: &usize| self.count(old, index) != self.count(new, index);
-            (0..self.counts_in(old.len())).filter(differs).count()
-        };
-        parts.map(counts).sum()
-    }
 }
 
 #[cfg(test)]
@@ -99,16 +88,5 @@ mod tests {
         assert_eq!([0, 1, 8, 9].map(|counts| width(1).bytes_of(counts)), [0, 1, 1, 2]);
         assert_eq!([1, 2, 3].map(|counts| width(4).bytes_of(counts)), [1, 1, 2]);
         assert_eq!(width(64).bytes_of(3), 24);
-    }
-
-    #[test]
-    fn counts_that_differ() {
-        let old = [0; 20];
-        let mut new = old;
-        (new[0], new[9], new[16]) = (0b1001_0001, 0xFF, 1);
-        let differing = |bits| width(bits).differing(&old, &new);
-        assert_eq!([1, 2, 4, 8, 16, 32].map(differing), [12, 8, 5, 3, 3, 3]);
-        assert_eq!(width(64).differing(&old[..16], &new[..16]), 2);
-        assert_eq!(width(1).differing(&new, &new), 0);
     }
 }

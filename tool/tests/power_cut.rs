@@ -8,39 +8,14 @@ use std::fs;
 
 use ::made::rng::Rng;
 use ::made::snapshot_drive;
-use common::drive::{put, sectors, torn, usable, Drive, Random};
+use common::drive::{all_torn, put, sectors, usable, Drive, Random};
 use common::made::{get_count, largest, made_at, put_count, Made};
+use common::promise::{verdict, Promise};
 use common::{bench_image, images};
-use qcow2_core::{check, read, read_snapshot, translate, Found, Outcome, Verdict};
+use qcow2_core::{translate, Found, Outcome, Verdict};
 use qstore::call::Call;
 use qstore::layout::Layout;
 use qstore::ordered::{Fault, Ordered};
-
-fn verdict(image: &[u8]) -> Verdict {
-    check(image, &mut vec![0; image.len() / 256])
-}
-
-/// Were the autoclear bits cleared?
-fn cleared(before: &[u8], after: &[u8]) -> bool {
-    before[88..96] != after[88..96]
-}
-
-fn guest(image: &[u8], size: u64) -> Vec<u8> {
-    let mut bytes = vec![0; size as usize];
-    read(image, 0, &mut bytes).expect("an accepted read");
-    bytes
-}
-
-/// The bytes of every snapshot.
-fn kept(image: &[u8]) -> Vec<Vec<u8>> {
-    let trees = Layout::of(image).unwrap().with_snapshots(image);
-    let read = |tree: &Layout| {
-        let mut bytes = vec![0; tree.size as usize];
-        read_snapshot(image, tree.snapshot.unwrap(), 0, &mut bytes).expect("an accepted read");
-        bytes
-    };
-    trees[1..].iter().map(read).collect()
-}
 
 /// At times sets autoclear bits, where the image has a field for them.
 fn set_bits(image: &mut [u8], layout: &Layout, random: &mut Random) {
@@ -51,59 +26,22 @@ fn set_bits(image: &mut [u8], layout: &Layout, random: &mut Random) {
 
 /// One call on a drive; every state on the way, then the image afterwards.
 fn follow(image: &[u8], call: Call, random: &mut Random) -> Vec<u8> {
-    let layout = Layout::of(image).unwrap();
     let mut ordered = usable(Drive::with(image));
     let outcome = ordered.call(&call, u64::MAX).expect("no fault");
     let mut wanted = image.to_vec();
     assert_eq!(call.run(&mut wanted, u64::MAX), outcome);
     assert!(ordered.is_in_step().unwrap() && ordered.image() == wanted);
-    let request = match call {
-        Call::Write { offset, data } => offset as usize..offset as usize + data.len(),
-        Call::Discard { cluster } => {
-            let start = (cluster as usize) << layout.bits;
-            start..(start + layout.cluster()).min(layout.size as usize)
-        }
-    };
-    let mut drive = ordered.into_disk();
+    let drive = ordered.into_disk();
     assert!(drive.open.is_empty(), "something was not flushed");
-    assert!(drive.epochs.remove(0).is_empty(), "stored before the first flush");
-    let (old, new) = (guest(image, layout.size), guest(&wanted, layout.size));
-    let snapshots = kept(image);
-    let Outcome::Finished(units) = outcome else { panic!("{outcome:?}") };
-    let others = units - u64::from(cleared(image, &wanted));
-    let counts = stores_a_count(&call, &layout, others);
-    let mut state = image.to_vec();
-    for stores in &drive.epochs {
-        // The autoclear bits go first and alone.
-        let in_header = stores.iter().filter(|store| store.0 < 512).count();
-        let clears = cleared(&state, &wanted);
-        assert_eq!(in_header, clears.into());
-        assert!(!clears || stores.len() == 1);
-        let mut states = torn(&state, stores, random);
-        put(&mut state, &sectors(stores));
-        states.push(state.clone());
-        for state in states {
-            assert!(verdict(&state).is_usable(), "{:?}", verdict(&state));
-            assert!(kept(&state) == snapshots, "a byte of a snapshot");
-            let seen = guest(&state, layout.size);
-            for at in 0..seen.len() {
-                let allowed = seen[at] == old[at] || request.contains(&at) && seen[at] == new[at];
-                assert!(allowed, "guest byte {at}");
-            }
-            let (was, is) = (&old[request.clone()], &new[request.clone()]);
-            let part = &seen[request.clone()];
-            assert!(!counts || part == was || part == is, "half a request");
-        }
+    assert!(drive.epochs[0].is_empty(), "stored before the first flush");
+    assert!(drive.epochs.len() <= 4 && drive.epochs[1..].iter().all(|it| !it.is_empty()));
+    let promise = Promise::of(image, &call);
+    let states = all_torn(image, &drive, random);
+    for state in &states {
+        assert_eq!(promise.fault(state), None);
     }
-    assert!(state == wanted);
+    assert!(states.last() == Some(&wanted));
     wanted
-}
-
-fn stores_a_count(call: &Call, layout: &Layout, units: u64) -> bool {
-    match call {
-        Call::Write { .. } => units > layout.cluster() as u64 + 1,
-        Call::Discard { .. } => units == 2,
-    }
 }
 
 #[test]
@@ -204,20 +142,20 @@ fn unless_refused(image: Vec<u8>, call: Call, random: &mut Random) -> Vec<u8> {
     }
 }
 
-/// The two counts of a list that share a byte: the first is flushed before the
-/// second, and is kept by it.
+/// The two counts of a list, which may share a byte: they are in one epoch, in
+/// any order, and what shares a byte with them is kept.
 #[test]
-fn counts_of_one_byte_are_flushed_in_turn() {
+fn counts_of_one_byte() {
     // For 1, 2 and 4 bits clusters 4 and 5 share a byte, and for 1 and 2 bits
     // with those before.
-    let bytes: [[(usize, u8); 2]; 7] = [
-        [(1024, 0b0001_1111), (1024, 0b0011_1111)],
-        [(1025, 0b0000_0001), (1025, 0b0000_0101)],
-        [(1026, 0x01), (1026, 0x11)],
-        [(1028, 1), (1029, 1)],
-        [(1033, 1), (1035, 1)],
-        [(1043, 1), (1047, 1)],
-        [(1063, 1), (1071, 1)],
+    let bytes: [&[(usize, u8)]; 7] = [
+        &[(1024, 0b0011_1111)],
+        &[(1025, 0b0000_0101)],
+        &[(1026, 0x11)],
+        &[(1028, 1), (1029, 1)],
+        &[(1033, 1), (1035, 1)],
+        &[(1043, 1), (1047, 1)],
+        &[(1063, 1), (1071, 1)],
     ];
     for (order, counts) in (0..).zip(bytes) {
         let image = made_at(order, 3, 9, 16, 65_536).image;
@@ -225,23 +163,25 @@ fn counts_of_one_byte_are_flushed_in_turn() {
         let call = Call::Write { offset: 33_285, data: b"h" };
         assert_eq!(ordered.call(&call, u64::MAX).unwrap(), Outcome::Finished(1028));
         let epochs = ordered.into_disk().epochs;
-        let stores: Vec<Vec<(usize, u8)>> = epochs[1..4]
-            .iter()
-            .map(|stores| stores.iter().map(|(at, bytes)| (*at, bytes[0])).collect())
-            .collect();
-        assert_eq!(stores, [vec![counts[0]], vec![counts[1]], vec![(2565, b'h')]]);
-        assert_eq!(epochs.len(), 6);
+        let stores = |epoch: usize| -> Vec<(usize, u8)> {
+            epochs[epoch].iter().map(|(at, bytes)| (*at, bytes[0])).collect()
+        };
+        // The L2 entry comes with its table.
+        let mut wanted = counts.to_vec();
+        wanted.extend([(2056, 0x80), (2565, b'h')]);
+        wanted.sort_unstable();
+        let mut first = stores(1);
+        first.sort_unstable();
+        assert_eq!((epochs.len(), first, stores(2)), (3, wanted, vec![(1544, 0x80)]));
         let mut state = image;
         put(&mut state, &sectors(&epochs[1]));
-        assert_eq!(verdict(&state), Verdict::Leaks(1));
-        put(&mut state, &sectors(&epochs[2]));
         assert_eq!(verdict(&state), Verdict::Leaks(2));
     }
 }
 
-/// The stores of the first write on the bench image, each kind flushed.
+/// The stores of the first write on the bench image.
 #[test]
-fn kinds_of_units_are_flushed_in_order() {
+fn epochs_are_flushed_in_order() {
     for bits in [0, 1] {
         let mut image = bench_image();
         image[95] = bits;
@@ -251,34 +191,65 @@ fn kinds_of_units_are_flushed_in_order() {
         assert_eq!(ordered.call(&call, u64::MAX).unwrap(), Outcome::Finished(units));
         let mut epochs = ordered.into_disk().epochs;
         assert!(epochs.remove(0).is_empty());
-        let stores: Vec<usize> = epochs.iter().flatten().map(|store| store.0).collect();
-        // Autoclear bits, table's count, count, data, L2 entry, L1 entry; the
-        // table is zero already.
-        let wanted = [95, 1024 + 9, 1024 + 11, 2565, 2056, 1544];
+        let places = |stores: &Vec<(usize, Vec<u8>)>| stores.iter().map(|it| it.0).collect();
+        let stores: Vec<Vec<usize>> = epochs.iter().map(places).collect();
+        // Autoclear bits; table's count, its one entry, count, data; L1 entry.
+        let wanted = [vec![95], vec![1024 + 9, 2056, 1024 + 11, 2565], vec![1544]];
         assert_eq!(stores, wanted[usize::from(bits == 0)..]);
-        assert!(epochs.iter().all(|stores| stores.len() == 1));
     }
 }
 
+/// Store or flush, one after the other, for counts that share a byte and others.
 #[test]
 fn a_drive_that_fails_leaves_the_first_units() {
-    for (left, order) in (0..12).flat_map(|left| (0..=6).map(move |order| (left, order))) {
+    for order in 0..=6 {
         let mut image = made_at(order, 3, 9, 16, 65_536).image;
         image[95] = 1;
-        let drive = Drive { left: Some(left), ..Drive::with(&image) };
-        let mut ordered = Ordered::new(drive, Layout::of(&image).unwrap(), image.clone());
         let call = Call::Write { offset: 33_285, data: b"hello" };
-        // Each kind is one store and one flush.
-        match ordered.call(&call, u64::MAX) {
-            Err(Fault::Store(_)) => assert_eq!(left % 2, 0),
-            Err(Fault::Flush(_)) => assert_eq!(left % 2, 1),
-            other => panic!("{left}: {other:?}"),
+        let promise = Promise::of(&image, &call);
+        let kinds = if order < 3 { "SF SSSF SF" } else { "SF SSSSF SF" }.replace(' ', "");
+        for (left, kind) in kinds.chars().enumerate() {
+            let drive = Drive { left: Some(left), ..Drive::with(&image) };
+            let mut ordered = Ordered::new(drive, image.clone()).unwrap();
+            match ordered.call(&call, u64::MAX) {
+                Err(Fault::Store(_)) => assert_eq!(kind, 'S'),
+                Err(Fault::Flush(_)) => assert_eq!(kind, 'F'),
+                other => panic!("{left}: {other:?}"),
+            }
+            let drive = ordered.into_disk();
+            for state in all_torn(&image, &drive, &mut Random(left as u64)) {
+                assert_eq!(promise.fault(&state), None);
+            }
         }
-        let mut state = image;
-        let drive = ordered.into_disk();
-        drive.epochs.iter().for_each(|stores| put(&mut state, &sectors(stores)));
-        put(&mut state, &sectors(&drive.open));
-        assert!(verdict(&state).is_usable());
+        let drive = Drive { left: Some(kinds.len()), ..Drive::with(&image) };
+        let mut ordered = Ordered::new(drive, image.clone()).unwrap();
+        assert_eq!(ordered.call(&call, u64::MAX).unwrap(), Outcome::Finished(1029));
+    }
+}
+
+/// An allowance that stops a call anywhere: the file holds just the first units,
+/// and what a cut leaves on the way there is promised too.
+#[test]
+fn every_allowance() {
+    let mut image = made_at(0, 3, 9, 16, 65_536).image;
+    let new = Call::Write { offset: 33_285, data: b"hello" };
+    let discard = Call::Discard { cluster: 65 };
+    for (call, units) in [(new, 1029), (new, 6), (discard, 3)] {
+        image[90] = 7;
+        let promise = Promise::of(&image, &call);
+        for allowance in 0..=units + 1 {
+            let mut ordered = usable(Drive::with(&image));
+            let outcome = ordered.call(&call, allowance).unwrap();
+            let mut wanted = image.clone();
+            assert_eq!(call.run(&mut wanted, allowance), outcome);
+            assert_eq!(outcome == Outcome::Finished(units), allowance >= units);
+            assert!(ordered.is_in_step().unwrap() && ordered.image() == wanted);
+            let drive = ordered.into_disk();
+            assert!(drive.open.is_empty());
+            let states = all_torn(&image, &drive, &mut Random(allowance));
+            assert!(states.iter().all(|state| promise.fault(state).is_none()));
+        }
+        call.run(&mut image, u64::MAX);
     }
 }
 
@@ -307,7 +278,7 @@ fn what_is_out_of_step_is_found() {
         let image = bench_image();
         let mut drive = Drive::with(&image);
         drive.cache[at] ^= 1;
-        let ordered = Ordered::new(drive, Layout::of(&image).unwrap(), image);
+        let ordered = Ordered::new(drive, image).unwrap();
         assert!(!ordered.is_in_step().unwrap());
     }
 }

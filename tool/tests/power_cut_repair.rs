@@ -1,49 +1,15 @@
-//! Repairs of many leaks: what the file holds after each flush is what the core
-//! leaves with some allowance, and each flush brings one sector.
+//! Repairs of many leaks: one flush for all counts, whichever sectors of them a
+//! power cut leaves, and one more for the autoclear bits.
 
 mod common;
 
-use std::io;
-
 use ::made::rng::Rng;
 use ::made::snapshot_drive;
+use common::drive::{all_torn, Drive, Random};
 use common::made::{get_count, largest, made_at, put_count, Made};
-use qcow2_core::{check, repair, Outcome, Verdict};
-use qstore::disk::Disk;
-use qstore::layout::Layout;
+use common::promise::{verdict, Promise};
+use qcow2_core::{repair, Outcome, Verdict};
 use qstore::ordered::Ordered;
-
-/// The image after each flush.
-struct Drive {
-    image: Vec<u8>,
-    open: Vec<usize>,
-    flushed: Vec<Vec<u8>>,
-}
-
-impl Disk for Drive {
-    fn length(&self) -> io::Result<u64> {
-        Ok(self.image.len() as u64)
-    }
-
-    fn load(&self, at: u64, bytes: &mut [u8]) -> io::Result<()> {
-        bytes.copy_from_slice(&self.image[at as usize..][..bytes.len()]);
-        Ok(())
-    }
-
-    fn store(&mut self, at: u64, bytes: &[u8]) -> io::Result<()> {
-        let at = at as usize;
-        self.image[at..at + bytes.len()].copy_from_slice(bytes);
-        self.open.extend([at / 512, (at + bytes.len() - 1) / 512]);
-        Ok(())
-    }
-
-    fn flush(&mut self) -> io::Result<()> {
-        assert!(self.open.iter().all(|sector| *sector == self.open[0]), "more than one sector");
-        self.open.clear();
-        self.flushed.push(self.image.clone());
-        Ok(())
-    }
-}
 
 /// Clusters of 1,024 bytes, every third free one leaks. Those past the end have
 /// counts too, which are not looked at.
@@ -61,20 +27,15 @@ fn leaking(order: u32, clusters: usize) -> (Vec<u8>, u64) {
     (image, leaks)
 }
 
-/// An order, clusters that take five sectors of counts and more at that width,
-/// and how many sectors they take.
-fn many() -> [(u32, usize, usize); 4] {
-    [(0, 17_003, 5), (2, 5_001, 5), (4, 1200, 5), (6, 333, 6)]
-}
+/// An order, and clusters that take five sectors of counts and more.
+const MANY: [(u32, usize); 4] = [(0, 17_003), (2, 5_001), (4, 1200), (6, 333)];
 
 #[test]
-fn each_flush_is_a_prefix_of_the_list() {
-    for (order, clusters, sectors) in many() {
+fn any_sectors_of_many_leaks() {
+    for (order, clusters) in MANY {
         let (image, leaks) = leaking(order, clusters);
         for allowance in [u64::MAX, leaks, leaks - 1, leaks / 2, 1, 0] {
-            let flushed = flushes(&image, leaks, leaks, allowance);
-            assert!(flushed.len() <= sectors);
-            assert!(flushed.len() == sectors || allowance < leaks);
+            assert_eq!(flushes(&image, leaks, leaks, allowance), (allowance > 0).into());
         }
     }
 }
@@ -86,13 +47,11 @@ fn a_cut_among_the_counts_of_a_byte() {
         let (image, leaks) = leaking(order, 45);
         let Made { block_at, .. } = made_at(order, 3, 10, 45, 65_536);
         for allowance in 0..=leaks {
-            let flushed = flushes(&image, leaks, leaks, allowance);
-            assert_eq!(flushed.len(), (allowance > 0).into());
-            let Some(state) = flushed.first() else { continue };
+            let state = repaired(&image, allowance).cache;
             let counts = |image: &[u8]| -> Vec<u64> {
                 (0..48).map(|at| get_count(&image[block_at..], order, at)).collect()
             };
-            let (before, after) = (counts(&image), counts(state));
+            let (before, after) = (counts(&image), counts(&state));
             let set = (0..48).filter(|&at| before[at] != after[at]).collect::<Vec<usize>>();
             let leaked: Vec<usize> = (0..45).filter(|at| at % 3 == 0 && *at > 4).collect();
             assert_eq!(set, leaked[..allowance as usize]);
@@ -104,15 +63,20 @@ fn a_cut_among_the_counts_of_a_byte() {
 /// The autoclear bits are cleared first, by a flush of their own.
 #[test]
 fn the_clearing_unit_is_the_first() {
-    for (order, clusters, _) in many() {
+    for (order, clusters) in MANY {
         let (mut image, leaks) = leaking(order, clusters);
         image[90] = 5;
         for allowance in [u64::MAX, leaks + 1, leaks, 2, 1, 0] {
-            let flushed = flushes(&image, leaks, leaks + 1, allowance);
-            let changed = |state: &[u8]| state.iter().zip(&image).filter(|(a, b)| a != b).count();
-            assert_eq!(flushed.is_empty(), allowance == 0);
-            assert!(flushed.first().is_none_or(|state| state[90] == 0 && changed(state) == 1));
+            let wanted = allowance.min(2) as usize;
+            assert_eq!(flushes(&image, leaks, leaks + 1, allowance), wanted);
         }
+        // A drive that does not make that flush is found out.
+        let drive = Drive { deaf: Some(0), ..Drive::with(&image) };
+        let mut ordered = Ordered::new(drive, image.clone()).unwrap();
+        assert_eq!(ordered.repair(u64::MAX, |_, _| ()).unwrap(), Outcome::Finished(leaks + 1));
+        let promise = Promise::of_repair(&image);
+        let states = all_torn(&image, &ordered.into_disk(), &mut Random(order.into()));
+        assert!(states.iter().any(|state| promise.fault(state).is_some()));
     }
 }
 
@@ -131,50 +95,67 @@ fn leaks_beside_snapshots() {
                 leaks += 1;
             }
         }
-        if leaks == 0 {
+        let per_table = made.per_table() << made.cluster_bits;
+        let long = made.snapshots.iter().any(|it| it.l1_size * per_table > 1 << 19);
+        if leaks == 0 || long || made.size > 1 << 19 {
             continue;
         }
         images += 1;
         let units = leaks + made.clearing();
         for allowance in [u64::MAX, units, units - 1, units / 2, rng.below(units), 1, 0] {
-            flushes(&made.bytes, leaks, units, allowance);
+            let wanted = allowance.min(1 + made.clearing()) as usize;
+            assert_eq!(flushes(&made.bytes, leaks, units, allowance), wanted);
         }
     }
 }
 
-/// Repairs an image with these leaks by a list of these units; the states that
-/// were flushed.
-fn flushes(image: &[u8], leaks: u64, units: u64, allowance: u64) -> Vec<Vec<u8>> {
-    let mut scratch = vec![0; image.len() / 256];
-    assert_eq!(check(image, &mut scratch), Verdict::Leaks(leaks));
-    let drive = Drive { image: image.to_vec(), open: vec![], flushed: vec![] };
-    let mut ordered = Ordered::new(drive, Layout::of(image).unwrap(), image.to_vec());
-    let mut spent = vec![];
-    let outcome = ordered.repair(allowance, |done, total| {
-        assert_eq!(total, units);
-        spent.push(done);
-    });
-    let mut wanted = image.to_vec();
-    assert_eq!(outcome.unwrap(), repair(&mut wanted, &mut scratch, allowance));
+/// A drive after a repair, which did what the core does.
+fn repaired(image: &[u8], allowance: u64) -> Drive {
+    let mut ordered = Ordered::new(Drive::with(image), image.to_vec()).unwrap();
+    let outcome = ordered.repair(allowance, |_, _| ()).unwrap();
+    let (mut wanted, mut scratch) = (image.to_vec(), vec![0; image.len() / 256]);
+    assert_eq!(outcome, repair(&mut wanted, &mut scratch, allowance));
     assert!(ordered.is_in_step().unwrap() && ordered.image() == wanted);
-    spent.dedup();
-    spent.retain(|&units| units > 0);
-    let flushed = ordered.into_disk().flushed;
-    assert_eq!(flushed.len(), spent.len());
-    for (state, units) in flushed.iter().zip(spent) {
-        let mut prefix = image.to_vec();
-        repair(&mut prefix, &mut scratch, units);
-        assert!(*state == prefix, "after {units} units");
+    ordered.into_disk()
+}
+
+/// Repairs an image with these leaks by a list of these units, and looks at all
+/// that a cut may leave; how many flushes there were.
+fn flushes(image: &[u8], leaks: u64, units: u64, allowance: u64) -> usize {
+    assert_eq!(verdict(image), Verdict::Leaks(leaks));
+    let drive = repaired(image, allowance);
+    assert!(drive.open.is_empty());
+    let promise = Promise::of_repair(image);
+    for state in all_torn(image, &drive, &mut Random(allowance)) {
+        assert_eq!(promise.fault(&state), None);
     }
-    flushed
+    let sound = verdict(&drive.cache) == Verdict::Sound;
+    assert_eq!(sound, allowance >= units);
+    drive.flushes
+}
+
+/// What is said of the way: units that are flushed, of all.
+#[test]
+fn progress() {
+    let (mut image, leaks) = leaking(4, 45);
+    image[90] = 5;
+    for (allowance, wanted) in [(u64::MAX, vec![1, leaks + 1]), (3, vec![1, 3]), (1, vec![1])] {
+        let mut ordered = Ordered::new(Drive::with(&image), image.clone()).unwrap();
+        let mut said = vec![];
+        let outcome = ordered.repair(allowance, |done, total| {
+            assert_eq!(total, leaks + 1);
+            said.push(done);
+        });
+        assert!(outcome.is_ok());
+        assert_eq!(said, wanted);
+    }
 }
 
 #[test]
 fn a_sound_image_is_left_alone() {
     let image = common::bench_image();
-    let drive = Drive { image: image.clone(), open: vec![], flushed: vec![] };
-    let mut ordered = Ordered::new(drive, Layout::of(&image).unwrap(), image);
+    let mut ordered = Ordered::new(Drive::with(&image), image).unwrap();
     let outcome = ordered.repair(u64::MAX, |_, _| panic!("nothing to do"));
     assert_eq!(outcome.unwrap(), Outcome::Finished(0));
-    assert!(ordered.into_disk().flushed.is_empty());
+    assert_eq!(ordered.into_disk().flushes, 0);
 }

@@ -2,6 +2,10 @@
 //! implementations can be fed the same requests.
 #![forbid(unsafe_code)]
 
+mod steps;
+
+pub use steps::{Geometry, Step, STEP};
+
 /// What stands behind one guest offset.
 #[derive(Clone, Copy, Debug, PartialEq, Eq)]
 pub enum Found {
@@ -96,9 +100,10 @@ impl Verdict {
     }
 }
 
-/// The ten calls of one implementation.
+/// The calls of one implementation.
 pub trait Calls {
     fn name(&self) -> &'static str;
+    fn geometry(&self, image: &[u8]) -> Result<Geometry, u32>;
     fn translate(&self, image: &[u8], offset: u64) -> Found;
     fn read(&self, image: &[u8], offset: u64, out: &mut [u8]) -> Result<(), u32>;
     /// The same through the L1 table of a snapshot, which is named by its number.
@@ -115,6 +120,24 @@ pub trait Calls {
     fn write(&self, image: &mut [u8], offset: u64, data: &[u8], allowance: u64) -> Outcome;
     fn discard(&self, image: &mut [u8], cluster: u64, allowance: u64) -> Outcome;
     fn repair(&self, image: &mut [u8], scratch: &mut [u8], allowance: u64) -> Outcome;
+    /// Fills rows of four numbers with the steps of a write of `len` bytes; how
+    /// many.
+    fn write_steps(
+        &self,
+        image: &[u8],
+        offset: u64,
+        len: u64,
+        rows: &mut [u64],
+    ) -> Result<usize, u32>;
+    /// The same for a discard.
+    fn discard_steps(&self, image: &[u8], cluster: u64, rows: &mut [u64]) -> Result<usize, u32>;
+    /// The same for a repair.
+    fn repair_steps(
+        &self,
+        image: &[u8],
+        scratch: &mut [u8],
+        rows: &mut [u64],
+    ) -> Result<usize, u32>;
     fn check(&self, image: &[u8], scratch: &mut [u8]) -> Verdict;
     fn difference(&self, stored: u64, figure: u16) -> i32;
 }
@@ -127,6 +150,9 @@ macro_rules! calls_by_functions {
         impl $crate::Calls for $side {
             fn name(&self) -> &'static str {
                 $name
+            }
+            fn geometry(&self, image: &[u8]) -> Result<$crate::Geometry, u32> {
+                geometry(image)
             }
             fn translate(&self, image: &[u8], offset: u64) -> $crate::Found {
                 translate(image, offset)
@@ -174,6 +200,31 @@ macro_rules! calls_by_functions {
                 allowance: u64,
             ) -> $crate::Outcome {
                 repair(image, scratch, allowance)
+            }
+            fn write_steps(
+                &self,
+                image: &[u8],
+                offset: u64,
+                len: u64,
+                rows: &mut [u64],
+            ) -> Result<usize, u32> {
+                write_steps(image, offset, len, rows)
+            }
+            fn discard_steps(
+                &self,
+                image: &[u8],
+                cluster: u64,
+                rows: &mut [u64],
+            ) -> Result<usize, u32> {
+                discard_steps(image, cluster, rows)
+            }
+            fn repair_steps(
+                &self,
+                image: &[u8],
+                scratch: &mut [u8],
+                rows: &mut [u64],
+            ) -> Result<usize, u32> {
+                repair_steps(image, scratch, rows)
             }
             fn check(&self, image: &[u8], scratch: &mut [u8]) -> $crate::Verdict {
                 check(image, scratch)

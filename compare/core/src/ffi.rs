@@ -14,6 +14,13 @@ pub const MARK_L1: u32 = 1011;
 pub const MARK_L2: u32 = 1012;
 
 extern "C" {
+    pub fn qcow2_geometry(
+        image: *const u8,
+        n: usize,
+        cluster_bits: *mut u64,
+        size: *mut u64,
+        clusters: *mut u64,
+    ) -> u32;
     pub fn qcow2_translate(image: *const u8, n: usize, offset: u64, host: *mut u64) -> u32;
     pub fn qcow2_read(image: *const u8, n: usize, offset: u64, out: *mut u8, out_len: usize)
         -> u32;
@@ -58,6 +65,32 @@ extern "C" {
         m: usize,
         allowance: u64,
         units: *mut u64,
+    ) -> u32;
+    pub fn qcow2_write_steps(
+        image: *const u8,
+        n: usize,
+        offset: u64,
+        len: u64,
+        rows: *mut u64,
+        m: usize,
+        count: *mut u64,
+    ) -> u32;
+    pub fn qcow2_discard_steps(
+        image: *const u8,
+        n: usize,
+        cluster: u64,
+        rows: *mut u64,
+        m: usize,
+        count: *mut u64,
+    ) -> u32;
+    pub fn qcow2_repair_steps(
+        image: *const u8,
+        n: usize,
+        scratch: *mut u8,
+        scratch_len: usize,
+        rows: *mut u64,
+        m: usize,
+        count: *mut u64,
     ) -> u32;
     pub fn qcow2_check(
         image: *const u8,

@@ -6,15 +6,28 @@
 //! the out values are locals.
 
 mod ffi;
+mod steps;
 #[cfg(test)]
 mod stored;
 
-pub use answers::{Found, Outcome, Run, Verdict};
+pub use answers::{Found, Geometry, Outcome, Run, Step, Verdict, STEP};
+pub use steps::{discard_steps, repair_steps, write_steps};
 
 /// The proved core as an implementation of [`answers::Calls`].
 pub struct Core;
 
 answers::calls_by_functions!(Core, "core");
+
+/// Cluster size, disk size and number of clusters, as the header has them.
+pub fn geometry(image: &[u8]) -> Result<Geometry, u32> {
+    let (mut cluster_bits, mut size, mut clusters) = (0, 0, 0);
+    let (lent, n) = (lend(image), image.len());
+    // SAFETY: see the head of this file.
+    match unsafe { ffi::qcow2_geometry(lent, n, &mut cluster_bits, &mut size, &mut clusters) } {
+        0 => Ok(Geometry { cluster_bits: cluster_bits as u32, size, clusters: clusters as usize }),
+        number => Err(number),
+    }
+}
 
 /// What stands behind `offset`.
 pub fn translate(image: &[u8], offset: u64) -> Found {
@@ -75,10 +88,7 @@ pub fn runs(image: &[u8], offset: u64, len: u64, rows: &mut [u64]) -> Result<usi
     // SAFETY: see the head of this file.
     let code =
         unsafe { ffi::qcow2_runs(lend(image), image.len(), offset, len, rows, m, &mut count) };
-    match code {
-        0 => Ok(count as usize),
-        number => Err(number),
-    }
+    listed(code, count)
 }
 
 /// Writes `data` at `offset`, cut after `allowance` units.
@@ -148,6 +158,14 @@ fn outcome(code: u32, units: u64) -> Outcome {
         0 => Outcome::Finished(units),
         ffi::STOPPED => Outcome::Stopped(units),
         number => Outcome::Refused(number),
+    }
+}
+
+/// How many rows were filled.
+fn listed(code: u32, count: u64) -> Result<usize, u32> {
+    match code {
+        0 => Ok(count as usize),
+        number => Err(number),
     }
 }
 

@@ -15,6 +15,8 @@ const HELD: u64 = 0xC3C3_C3C3_C3C3_C3C3;
 const CLUSTERS: usize = 16;
 /// The scratch that a check needs.
 const SCRATCH: usize = 2 * CLUSTERS;
+/// Numbers that are there to be lent.
+const ROWS: usize = 31;
 /// L1 entry 1 has the table of the guest clusters from 64 on.
 const GUEST: u64 = 64;
 const OFFSET: u64 = GUEST * 512;
@@ -22,6 +24,7 @@ const OFFSET: u64 = GUEST * 512;
 /// A call, with how much of the scratch it is lent and its allowance.
 #[derive(Clone, Copy, Debug)]
 enum Call {
+    Geometry,
     Translate(u64),
     Read(u64),
     ReadSnapshot(u64, u64),
@@ -29,6 +32,9 @@ enum Call {
     Write { offset: u64, allowance: u64 },
     Discard { cluster: u64, allowance: u64 },
     Repair { scratch: usize, allowance: u64 },
+    WriteSteps { offset: u64, len: u64, room: usize },
+    DiscardSteps { cluster: u64, room: usize },
+    RepairSteps { scratch: usize, room: usize },
     Check { scratch: usize },
 }
 
@@ -37,14 +43,14 @@ enum Call {
 struct Lent {
     image: Vec<u8>,
     bytes: [u8; 3],
-    rows: [u64; 9],
+    rows: [u64; ROWS],
     scratch: [u8; SCRATCH + 1],
 }
 
 impl Lent {
     fn of(made: &Made) -> Lent {
         let scratch = [0x5A; SCRATCH + 1];
-        Lent { image: made.bytes.clone(), bytes: *b"abc", rows: [HELD; 9], scratch }
+        Lent { image: made.bytes.clone(), bytes: *b"abc", rows: [HELD; ROWS], scratch }
     }
 
     /// Makes the call; its answer, and its numbers after it.
@@ -56,6 +62,7 @@ impl Lent {
         // SAFETY: see the head of lib.rs; no call is lent more rows or scratch than there are.
         let code = unsafe {
             match call {
+                Call::Geometry => ffi::qcow2_geometry(image, n, a, b, c),
                 Call::Translate(offset) => ffi::qcow2_translate(image, n, offset, a),
                 Call::Read(offset) => ffi::qcow2_read(image, n, offset, bytes, len),
                 Call::ReadSnapshot(snapshot, offset) => {
@@ -75,6 +82,15 @@ impl Lent {
                     assert!(scratch <= self.scratch.len());
                     ffi::qcow2_repair(image, n, figures, scratch, allowance, a)
                 }
+                Call::WriteSteps { offset, len, room } => {
+                    ffi::qcow2_write_steps(image, n, offset, len, rows, room, a)
+                }
+                Call::DiscardSteps { cluster, room } => {
+                    ffi::qcow2_discard_steps(image, n, cluster, rows, room, a)
+                }
+                Call::RepairSteps { scratch, room } => {
+                    ffi::qcow2_repair_steps(image, n, figures, scratch, rows, room, a)
+                }
                 Call::Check { scratch } => {
                     assert!(scratch <= self.scratch.len());
                     ffi::qcow2_check(image, n, figures, scratch, a, b, c)
@@ -83,7 +99,7 @@ impl Lent {
         };
         let numbers = match call {
             Call::Read(_) | Call::ReadSnapshot(..) => vec![],
-            Call::Check { .. } => vec![*a, *b, *c],
+            Call::Geometry | Call::Check { .. } => vec![*a, *b, *c],
             _ => vec![*a],
         };
         (code, numbers)
@@ -176,6 +192,50 @@ fn units() {
 }
 
 #[test]
+fn geometry() {
+    assert_eq!(answer(&sound(), Call::Geometry), (0, vec![9, 65_536, 16]));
+    assert_eq!(answer(&kept(), Call::Geometry), (0, vec![9, 65_536, 16]));
+}
+
+/// How many steps are listed, and the rows: the first of them, and no number
+/// past these.
+#[test]
+fn steps() {
+    let leaking = with_count(9, 3);
+    for room in 0..=ROWS {
+        let table = listed(&leaking, Call::WriteSteps { offset: 3, len: 2, room });
+        assert_eq!(table.len(), 4 * (room / 4).min(6));
+        let new = Call::WriteSteps { offset: AFTER_ZEROS, len: 512, room };
+        assert_eq!(listed(&leaking, new).len(), 4 * (room / 4).min(3));
+        let freed = listed(&leaking, Call::DiscardSteps { cluster: GUEST, room });
+        let wanted = [4 * 512, 8, 1, 1, 1024 + 10, 2, 1, 2];
+        assert_eq!(freed, wanted[..4 * (room / 4).min(2)]);
+        let repaired = listed(&leaking, Call::RepairSteps { scratch: SCRATCH, room });
+        assert_eq!(repaired, [1024 + 18, 2, 1, 1][..4 * (room / 4).min(1)]);
+        let nothing = Call::DiscardSteps { cluster: 0, room };
+        assert_eq!(listed(&leaking, nothing), [0; 0]);
+    }
+    let in_place = Call::WriteSteps { offset: OFFSET + 3, len: 4, room: ROWS };
+    assert_eq!(listed(&sound(), in_place), [5 * 512 + 3, 4, 4, 1]);
+    assert_eq!(listed(&sound(), Call::RepairSteps { scratch: SCRATCH, room: ROWS }), [0; 0]);
+}
+
+/// The numbers that are listed; what else was lent is as it was, but for the
+/// scratch of a repair, which is as the check leaves it.
+fn listed(made: &Made, call: Call) -> Vec<u64> {
+    let (mut lent, mut before) = (Lent::of(made), Lent::of(made));
+    let (code, numbers) = lent.call(call);
+    let filled = 4 * numbers[0] as usize;
+    assert_eq!(code, 0, "{call:?}");
+    if let Call::RepairSteps { scratch, .. } = call {
+        assert!(matches!(before.call(Call::Check { scratch }).0, 0 | ffi::LEAKS));
+    }
+    before.rows[..filled].copy_from_slice(&lent.rows[..filled]);
+    assert!(lent == before, "{call:?} changed what it was lent");
+    lent.rows[..filled].to_vec()
+}
+
+#[test]
 fn first_second_and_third() {
     assert_eq!(check(&sound()), (0, vec![0, 0, 0]));
     assert_eq!(check(&with_count(9, 3)), (ffi::LEAKS, vec![1, 0, 0]));
@@ -231,6 +291,8 @@ fn beside_snapshots() {
     refused(&made, Call::ReadSnapshot(0, 65_534), 11);
     refused(&made, Call::Write { offset: OFFSET, allowance: ALL }, 22);
     refused(&made, Call::Discard { cluster: GUEST, allowance: ALL }, 22);
+    refused(&made, Call::WriteSteps { offset: OFFSET, len: 1, room: ROWS }, 22);
+    refused(&made, Call::DiscardSteps { cluster: GUEST, room: ROWS }, 22);
     let mut lent = Lent::of(&made);
     assert_eq!(lent.call(Call::Check { scratch: SCRATCH }), (0, vec![0, 0, 0]));
     assert_eq!(lent.scratch[..14], [0, 1, 0, 1, 0, 1, 0, 1, 0, 3, 0, 3, 0, 1]);
@@ -249,10 +311,17 @@ fn refused_requests() {
     refused(&made, Call::Repair { scratch: SCRATCH - 1, allowance: ALL }, 15);
     refused(&made, Call::Check { scratch: SCRATCH - 1 }, 15);
     refused(&with_count(5, 0), Call::Discard { cluster: GUEST, allowance: ALL }, 16);
+    refused(&made, Call::WriteSteps { offset: 510, len: 3, room: ROWS }, 11);
+    refused(&made, Call::WriteSteps { offset: 0, len: ALL, room: ROWS }, 11);
+    refused(&made, Call::WriteSteps { offset: ALL, len: ALL, room: ROWS }, 11);
+    refused(&made, Call::DiscardSteps { cluster: end / 512, room: ROWS }, 11);
+    refused(&made, Call::RepairSteps { scratch: SCRATCH - 1, room: ROWS }, 15);
+    refused(&with_count(5, 0), Call::DiscardSteps { cluster: GUEST, room: ROWS }, 16);
     let mut full = sound();
     (6..CLUSTERS).for_each(|cluster| full.set_count(cluster, 1));
     refused(&full, Call::Write { offset: 0, allowance: ALL }, 14);
     refused(&full, Call::Write { offset: AFTER_ZEROS, allowance: ALL }, 14);
+    refused(&full, Call::WriteSteps { offset: 0, len: 1, room: ROWS }, 14);
 }
 
 #[test]
@@ -263,6 +332,8 @@ fn refused_on_the_way() {
         refused(&made, Call::Read(AFTER_ZEROS - 2), number);
         refused(&made, Call::Write { offset: AFTER_ZEROS, allowance: ALL }, number);
         refused(&made, Call::Discard { cluster: GUEST + 2, allowance: ALL }, number);
+        refused(&made, Call::WriteSteps { offset: AFTER_ZEROS, len: 1, room: ROWS }, number);
+        refused(&made, Call::DiscardSteps { cluster: GUEST + 2, room: ROWS }, number);
     }
 }
 
@@ -271,14 +342,19 @@ fn refused_on_the_way() {
 fn repair_of_damage() {
     let shared = USED | 5 * 512;
     for (made, figure) in [(with_entry(BAD), 1), (with_entry(shared), 2), (with_count(5, 0), 1)] {
-        let (mut lent, mut wanted) = (Lent::of(&made), Lent::of(&made));
-        let repair = Call::Repair { scratch: SCRATCH + 1, allowance: ALL };
-        assert_eq!(lent.call(repair), (17, vec![0]));
+        let mut wanted = Lent::of(&made);
         wanted.scratch[..SCRATCH].fill(0);
         for (cluster, figure) in [1, 1, 1, 1, 1, figure].into_iter().enumerate() {
             wanted.scratch[2 * cluster + 1] = figure;
         }
-        assert!(lent == wanted, "not the figures, or other bytes");
+        for repair in [
+            Call::Repair { scratch: SCRATCH + 1, allowance: ALL },
+            Call::RepairSteps { scratch: SCRATCH + 1, room: ROWS },
+        ] {
+            let mut lent = Lent::of(&made);
+            assert_eq!(lent.call(repair), (17, vec![0]));
+            assert!(lent == wanted, "not the figures, or other bytes");
+        }
     }
 }
 
@@ -298,6 +374,7 @@ fn refused_headers() {
 /// Every call is refused with the header's number; a lookup gives no bytes.
 fn refused_by_all(made: &Made, number: u32) {
     for call in [
+        Call::Geometry,
         Call::Translate(OFFSET),
         Call::Read(OFFSET),
         Call::ReadSnapshot(0, OFFSET),
@@ -305,6 +382,9 @@ fn refused_by_all(made: &Made, number: u32) {
         Call::Write { offset: OFFSET, allowance: ALL },
         Call::Discard { cluster: GUEST, allowance: ALL },
         Call::Repair { scratch: SCRATCH + 1, allowance: ALL },
+        Call::WriteSteps { offset: OFFSET, len: 3, room: ROWS },
+        Call::DiscardSteps { cluster: GUEST, room: ROWS },
+        Call::RepairSteps { scratch: SCRATCH + 1, room: ROWS },
         Call::Check { scratch: SCRATCH + 1 },
     ] {
         refused(made, call, number);

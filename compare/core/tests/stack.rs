@@ -30,6 +30,10 @@ fn each_call_needs_little_stack() {
             let mut scratch = vec![0; 2 * image.len() / cluster];
             let mut out = vec![0; 5 << 20];
             let data = vec![7; cluster];
+            let mut rows = vec![0; 4 * (image.len() / cluster + 1)];
+            let steps = qcow2_core::write_steps(&image, guest << bits, 1, &mut rows);
+            assert_eq!(steps, Ok(6));
+            assert_eq!(qcow2_core::repair_steps(&image, &mut scratch, &mut rows), Ok(0));
             let written = qcow2_core::write(&mut image, guest * cluster as u64, &data, ALL);
             assert_eq!(written, Outcome::Finished(2 * cluster as u64 + 4));
             let again = qcow2_core::write(&mut image, guest * cluster as u64, &data, ALL);
@@ -40,6 +44,7 @@ fn each_call_needs_little_stack() {
                 Ok(())
             );
             assert!(out[..cluster] == data);
+            assert_eq!(qcow2_core::discard_steps(&image, guest, &mut rows), Ok(2));
             assert_eq!(qcow2_core::discard(&mut image, guest, ALL), Outcome::Finished(2));
             qcow2_core::repair(&mut image, &mut scratch, ALL);
             qcow2_core::check(&image, &mut scratch);

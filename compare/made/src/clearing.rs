@@ -69,7 +69,11 @@ fn requests() -> Vec<Request> {
 }
 
 /// One call on a copy of the image: the answer, the image and the scratch.
-fn call(side: &dyn Calls, image: &[u8], request: &Request) -> (Outcome, Vec<u8>, Vec<u8>) {
+pub(crate) fn call(
+    side: &dyn Calls,
+    image: &[u8],
+    request: &Request,
+) -> (Outcome, Vec<u8>, Vec<u8>) {
     let (mut image, mut scratch) = (image.to_vec(), Vec::new());
     let outcome = match *request {
         Request::Write { offset, ref data, allowance } => {

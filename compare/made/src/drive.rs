@@ -10,6 +10,7 @@ use crate::pair::Pair;
 use crate::plan::Plan;
 use crate::requests::{Request, Requests};
 use crate::rng::Rng;
+use crate::snapshot_drive;
 use crate::snapshots::{self, MAX_SNAPSHOTS};
 
 /// A sound image with tables and entries, at times with snapshots.
@@ -104,6 +105,24 @@ pub fn compare_on(pair: &mut Pair, made: &Made, rng: &mut Rng) {
     }
 }
 
+/// Feeds both sides requests for steps, each with room for 0 to 31 numbers,
+/// until `calls` were made; every third image has snapshots.
+pub fn compare_steps(pair: &mut Pair, rng: &mut Rng, calls: u64) {
+    while pair.calls < calls {
+        let made = if rng.once_in(3) { snapshot_drive::any(rng) } else { any_image(rng) };
+        pair.load(&made.bytes);
+        pair.run(&Request::Geometry);
+        let mut requests = Requests::new(&made);
+        for _ in 0..6 {
+            let request = requests.steps(rng);
+            for room in 0..=31 {
+                pair.run(&request.steps(room));
+            }
+            pair.run(&requests.storing(rng));
+        }
+    }
+}
+
 /// The request with another allowance.
 pub fn with_allowance(request: &Request, allowance: u64) -> Request {
     let mut request = request.clone();
@@ -158,7 +177,7 @@ pub fn compare_cuts_on(pair: &mut Pair, made: &Made, rng: &mut Rng) {
 }
 
 /// A request as a call of a series, with its allowance.
-fn call(request: &Request) -> (Call<'_>, u64) {
+pub(crate) fn call(request: &Request) -> (Call<'_>, u64) {
     match *request {
         Request::Write { offset, ref data, allowance } => (Call::Write { offset, data }, allowance),
         Request::Discard { cluster, allowance } => (Call::Discard { cluster }, allowance),
@@ -167,7 +186,7 @@ fn call(request: &Request) -> (Call<'_>, u64) {
     }
 }
 
-fn step(series: &mut Series, image: &mut [u8], request: &Request) -> Outcome {
+pub(crate) fn step(series: &mut Series, image: &mut [u8], request: &Request) -> Outcome {
     let (asked, allowance) = call(request);
     series.step(image, asked, allowance).unwrap_or_else(|fault| panic!("{fault}: {request:?}"))
 }

@@ -25,4 +25,5 @@ pub mod rng;
 pub mod snapshot_drive;
 pub mod snapshot_edges;
 pub mod snapshots;
+pub mod steps;
 pub mod widths;

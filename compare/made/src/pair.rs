@@ -3,7 +3,7 @@
 
 use std::collections::BTreeMap;
 
-use answers::{Calls, Outcome};
+use answers::{Calls, Outcome, STEP};
 
 use crate::breaks::ORDER;
 use crate::guard::{with_numbers, Guarded};
@@ -61,7 +61,14 @@ impl<'c> Pair<'c> {
                     side.read_snapshot(image, snapshot, offset, out)
                 });
             }
+            Request::Geometry => {
+                _ = self.answers(request, |side, image| side.geometry(image.lent()))
+            }
             Request::Runs { offset, len, room } => self.runs(request, offset, len, room),
+            Request::WriteSteps { room, .. } | Request::DiscardSteps { room, .. } => {
+                self.steps(request, 0, room);
+            }
+            Request::RepairSteps { scratch, room } => self.steps(request, scratch, room),
             Request::Check { scratch } => {
                 self.with_scratch(request, scratch, |side, image, scratch| {
                     side.check(image.lent(), scratch)
@@ -128,10 +135,7 @@ impl<'c> Pair<'c> {
         same(request, out, answer.is_err().then_some(&before));
     }
 
-    /// Rows and answer agree; what is left over, or all of a refused call's
-    /// numbers, is as it was.
     fn runs(&mut self, request: &Request, offset: u64, len: u64, room: usize) {
-        const HELD: u64 = 0xC3C3;
         let mut rows = Vec::new();
         let answer = self.answers(request, |side, image| {
             let run = |lent: &mut [u64]| side.runs(image.lent(), offset, len, lent);
@@ -139,15 +143,24 @@ impl<'c> Pair<'c> {
             rows.push(numbers);
             answer
         });
-        assert!(rows[0] == rows[1], "rows differ: {request:?}");
-        let filled = 3 * answer.unwrap_or(0);
-        assert!(
-            rows[0][filled..].iter().all(|&number| number == HELD),
-            "past the rows: {request:?}"
-        );
+        let runs = same_rows(request, &rows, 3 * answer.unwrap_or(0));
         let most = if answer.is_ok() { len } else { 0 };
-        let covered: u64 = rows[0][..filled].iter().skip(2).step_by(3).sum();
-        assert!(covered == most || covered < most && filled / 3 == room / 3, "{request:?}");
+        let covered: u64 = runs.iter().skip(2).step_by(3).sum();
+        assert!(covered == most || covered < most && runs.len() / 3 == room / 3, "{request:?}");
+    }
+
+    /// With a scratch and numbers of these lengths.
+    fn steps(&mut self, request: &Request, scratch: usize, room: usize) {
+        let mut rows = Vec::new();
+        let answer = self.with_scratch(request, scratch, |side, image, scratch| {
+            let list = |lent: &mut [u64]| list_steps(side, image.lent(), request, scratch, lent);
+            let (numbers, answer) = with_numbers(room, HELD, list);
+            rows.push(numbers);
+            answer
+        });
+        let count = answer.unwrap_or(0);
+        same_rows(request, &rows, STEP * count);
+        assert!(count <= room / STEP, "{request:?}");
     }
 
     fn with_scratch<A: PartialEq + std::fmt::Debug>(
@@ -167,6 +180,34 @@ impl<'c> Pair<'c> {
     }
 }
 
+/// The steps that are asked for.
+pub fn list_steps(
+    side: &dyn Calls,
+    image: &[u8],
+    request: &Request,
+    scratch: &mut [u8],
+    rows: &mut [u64],
+) -> Result<usize, u32> {
+    match *request {
+        Request::WriteSteps { offset, len, .. } => side.write_steps(image, offset, len, rows),
+        Request::DiscardSteps { cluster, .. } => side.discard_steps(image, cluster, rows),
+        Request::RepairSteps { .. } => side.repair_steps(image, scratch, rows),
+        _ => unreachable!("not a listing of steps"),
+    }
+}
+
+/// What lent numbers hold before a call.
+const HELD: u64 = 0xC3C3;
+
+/// The numbers that both have filled: they agree, and what is left over, or all
+/// of a refused call's, is as it was.
+fn same_rows<'a>(request: &Request, rows: &'a [Vec<u64>], filled: usize) -> &'a [u64] {
+    assert!(rows[0] == rows[1], "rows differ: {request:?}");
+    let (numbers, rest) = rows[0].split_at(filled);
+    assert!(rest.iter().all(|&number| number == HELD), "past the rows: {request:?}");
+    numbers
+}
+
 /// Both hold the same bytes, `wanted` if that is given.
 fn same(request: &Request, held: &[Guarded; 2], wanted: Option<&Vec<u8>>) {
     let [left, right] = held;
@@ -183,13 +224,17 @@ pub fn missing(tally: &BTreeMap<String, u64>) -> Vec<String> {
     let mut wanted: Vec<String> = Vec::new();
     let storing = ["Finished", "Stopped"].as_slice();
     for (call, answers, numbers) in [
-        ("translate", ["Host", "Zeros", "Absent"].as_slice(), [11, 12, 13].as_slice()),
+        ("geometry", ["Ok"].as_slice(), [].as_slice()),
+        ("translate", &["Host", "Zeros", "Absent"], &[11, 12, 13]),
         ("read", &["Ok"], &[11, 12, 13]),
         ("read_snapshot", &["Ok"], &[11]),
         ("runs", &["Ok"], &[11]),
         ("write", storing, &[11, 12, 13, 14, 22]),
         ("discard", storing, &[11, 12, 13, 16, 22]),
         ("repair", storing, &[15, 17]),
+        ("write_steps", &["Ok"], &[11, 12, 13, 14, 22]),
+        ("discard_steps", &["Ok"], &[11, 12, 13, 16, 22]),
+        ("repair_steps", &["Ok"], &[15, 17]),
         ("check", &["Sound", "Leaks", "BadL1", "BadL2", "Shared", "Short"], &[15]),
     ] {
         wanted.extend(answers.iter().map(|answer| format!("{call} {answer}")));

@@ -8,6 +8,7 @@ use crate::rng::Rng;
 
 #[derive(Clone)]
 pub enum Request {
+    Geometry,
     Translate {
         offset: u64,
     },
@@ -43,6 +44,20 @@ pub enum Request {
         scratch: usize,
         allowance: u64,
     },
+    /// With room for this many numbers, as the next two.
+    WriteSteps {
+        offset: u64,
+        len: u64,
+        room: usize,
+    },
+    DiscardSteps {
+        cluster: u64,
+        room: usize,
+    },
+    RepairSteps {
+        scratch: usize,
+        room: usize,
+    },
     Check {
         scratch: usize,
     },
@@ -53,6 +68,7 @@ impl fmt::Debug for Request {
     fn fmt(&self, to: &mut fmt::Formatter) -> fmt::Result {
         write!(to, "{}", self.name())?;
         match self {
+            Request::Geometry => Ok(()),
             Request::Translate { offset } | Request::Lookup { offset } => {
                 write!(to, " at {offset}")
             }
@@ -60,8 +76,14 @@ impl fmt::Debug for Request {
             Request::ReadSnapshot { snapshot, offset, len } => {
                 write!(to, " {snapshot}, {len} at {offset}")
             }
-            Request::Runs { offset, len, room } => {
+            Request::Runs { offset, len, room } | Request::WriteSteps { offset, len, room } => {
                 write!(to, " of {len} at {offset}, room for {room}")
+            }
+            Request::DiscardSteps { cluster, room } => {
+                write!(to, " of {cluster}, room for {room}")
+            }
+            Request::RepairSteps { scratch, room } => {
+                write!(to, " with scratch of {scratch}, room for {room}")
             }
             Request::Write { offset, data, allowance } => {
                 let (len, start) = (data.len(), &data[..data.len().min(8)]);
@@ -79,8 +101,27 @@ impl fmt::Debug for Request {
 }
 
 impl Request {
+    /// The listing of a storing request's steps, or another listing, with room
+    /// for so many numbers.
+    pub fn steps(&self, room: usize) -> Request {
+        match *self {
+            Request::Write { offset, ref data, .. } => {
+                Request::WriteSteps { offset, len: data.len() as u64, room }
+            }
+            Request::WriteSteps { offset, len, .. } => Request::WriteSteps { offset, len, room },
+            Request::Discard { cluster, .. } | Request::DiscardSteps { cluster, .. } => {
+                Request::DiscardSteps { cluster, room }
+            }
+            Request::Repair { scratch, .. } | Request::RepairSteps { scratch, .. } => {
+                Request::RepairSteps { scratch, room }
+            }
+            _ => unreachable!("not a storing request"),
+        }
+    }
+
     pub fn name(&self) -> &'static str {
         match self {
+            Request::Geometry => "geometry",
             Request::Translate { .. } => "translate",
             Request::Read { .. } => "read",
             Request::ReadSnapshot { .. } => "read_snapshot",
@@ -89,6 +130,9 @@ impl Request {
             Request::Write { .. } => "write",
             Request::Discard { .. } => "discard",
             Request::Repair { .. } => "repair",
+            Request::WriteSteps { .. } => "write_steps",
+            Request::DiscardSteps { .. } => "discard_steps",
+            Request::RepairSteps { .. } => "repair_steps",
             Request::Check { .. } => "check",
         }
     }
@@ -108,7 +152,7 @@ impl<'m> Requests<'m> {
     }
 
     pub fn any(&mut self, rng: &mut Rng) -> Request {
-        match rng.below(20) {
+        match rng.below(24) {
             0..=1 => Request::Translate { offset: self.offset(rng) },
             2..=4 => {
                 let offset = self.offset(rng);
@@ -119,6 +163,8 @@ impl<'m> Requests<'m> {
             5 => Request::Lookup { offset: self.offset(rng) },
             6 => Request::Check { scratch: self.scratch(rng) },
             7..=8 => self.runs(rng),
+            20..=22 => self.steps(rng),
+            23 => Request::Geometry,
             _ => self.storing(rng),
         }
     }
@@ -137,6 +183,21 @@ impl<'m> Requests<'m> {
                 let allowance = rng.pick(&[0, 1, few, allowance, u64::MAX]);
                 Request::Repair { scratch: self.scratch(rng), allowance }
             }
+        }
+    }
+
+    /// The steps of a storing request, with room for less than all or for more.
+    pub fn steps(&mut self, rng: &mut Rng) -> Request {
+        let (few, all) = (rng.index(32), 4 * (self.made.clusters() + 1));
+        let long = edge(self.made.size, self.made.cluster() as u64, rng);
+        match self.storing(rng).steps(few) {
+            Request::WriteSteps { offset, room, .. } if rng.once_in(16) => {
+                Request::WriteSteps { offset, len: long, room }
+            }
+            Request::RepairSteps { scratch, room } => {
+                Request::RepairSteps { scratch, room: rng.pick(&[room, room, all, all / 8]) }
+            }
+            other => other,
         }
     }
 

@@ -2,7 +2,7 @@
 //! one byte, bytes that the list itself changes before it stores a count there,
 //! and counts up to the greatest.
 
-use answers::{Calls, Outcome};
+use answers::{Calls, Outcome, STEP};
 use plain::plain_disk::{Call, Series};
 
 use crate::damage;
@@ -104,19 +104,36 @@ fn entries_on_counts(order: u32) -> Vec<(Made, Vec<Request>)> {
     cases
 }
 
+/// The images of each width.
+fn all_cases(rng: &mut Rng) -> Vec<(Made, Vec<Request>)> {
+    let mut cases = Vec::new();
+    for order in 0..=MAX_ORDER {
+        cases.extend(two_free(order, rng));
+        cases.extend(free_structures(order, rng));
+        cases.extend(entries_on_counts(order));
+    }
+    cases
+}
+
 /// Feeds both sides the images, each list cut at many units and the request
 /// made once more; how many lists there were.
 pub fn compare_lists(pair: &mut Pair, rng: &mut Rng) -> u64 {
     let mut lists = 0;
-    for order in 0..=MAX_ORDER {
-        let mut cases = two_free(order, rng);
-        cases.extend(free_structures(order, rng));
-        cases.extend(entries_on_counts(order));
-        for (made, requests) in cases {
-            requests.iter().for_each(|request| lists += compare_list(pair, &made, request, rng));
-        }
+    for (made, requests) in all_cases(rng) {
+        requests.iter().for_each(|request| lists += compare_list(pair, &made, request, rng));
     }
     lists
+}
+
+/// Feeds both sides the images, and asks for the steps of each list.
+pub fn compare_steps(pair: &mut Pair, rng: &mut Rng) {
+    for (made, requests) in all_cases(rng) {
+        pair.load(&made.bytes);
+        for request in &requests {
+            let all = STEP * (made.clusters() + 1);
+            [all, 31, 27, 9].into_iter().for_each(|room| _ = pair.run(&request.steps(room)));
+        }
+    }
 }
 
 fn compare_list(pair: &mut Pair, made: &Made, request: &Request, rng: &mut Rng) -> u64 {

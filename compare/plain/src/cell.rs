@@ -1,5 +1,7 @@
 //! One stored count: where it stands, and its bits.
 
+use std::ops::Range;
+
 /// The place of a stored count of 2^order bits.
 #[derive(Clone, Copy)]
 pub(crate) struct Cell {
@@ -14,6 +16,11 @@ impl Cell {
     pub fn of(order: u32, block_at: usize, index: usize) -> Cell {
         let bit = index << order;
         Cell { at: block_at + bit / 8, order, shift: bit as u32 % 8 }
+    }
+
+    /// The bytes in which it stands; below eight bits it shares one.
+    pub fn bytes(self) -> Range<usize> {
+        self.at..self.at + (1 << self.order.saturating_sub(3))
     }
 
     pub fn load(self, image: &[u8]) -> u64 {

@@ -45,7 +45,7 @@ pub fn difference(stored: u64, figure: u16) -> i32 {
     (i128::from(stored) - i128::from(figure)).min(65_535) as i32
 }
 
-fn examine(image: &[u8], scratch: &mut [u8]) -> Result<(Header, Verdict), u32> {
+pub(crate) fn examine(image: &[u8], scratch: &mut [u8]) -> Result<(Header, Verdict), u32> {
     let header = Header::judge(image)?;
     let figures = scratch.get_mut(..2 * header.clusters).ok_or(15u32)?;
     figures.fill(0);

@@ -16,14 +16,16 @@ pub mod plain_disk;
 mod reading;
 mod references;
 mod snapshots;
+mod steps;
 mod storing;
 mod wide;
 mod width;
 mod words;
 
-pub use answers::{Found, Outcome, Run, Verdict};
+pub use answers::{Found, Geometry, Outcome, Run, Step, Verdict};
 pub use check::{check, difference, repair};
 pub use reading::{lookup, read, read_snapshot, runs, translate};
+pub use steps::{discard_steps, geometry, repair_steps, write_steps};
 pub use storing::{discard, write};
 
 /// This crate as an implementation of [`answers::Calls`].

@@ -1,7 +1,7 @@
 //! The list of unit stores of one write or discard, worked out from the image
 //! on entry, and its first units made in order.
 
-use answers::Outcome;
+use answers::{Outcome, Step};
 
 use crate::cell::Cell;
 use crate::header::{Header, AUTOCLEAR};
@@ -10,7 +10,8 @@ use crate::header::{Header, AUTOCLEAR};
 #[derive(Clone, Copy)]
 pub(crate) enum Store<'a> {
     /// One unit for each byte: `len` bytes from `at` on, all zero but for
-    /// `data` from byte `start` of them on.
+    /// `data` from byte `start` of them on. A list that is only to be looked at
+    /// has no data.
     Fill { at: usize, len: usize, start: usize, data: &'a [u8] },
     /// One unit: a stored count.
     Count { cell: Cell, value: u64 },
@@ -24,11 +25,14 @@ const MOST: usize = 7;
 pub(crate) struct List<'a> {
     stores: [Store<'a>; MOST],
     len: usize,
+    /// Is the first store the clearing unit?
+    clears: bool,
 }
 
 impl<'a> List<'a> {
     pub fn of<const K: usize>(stores: [Store<'a>; K]) -> List<'a> {
-        let mut list = List { stores: [Store::Entry { at: 0, value: 0 }; MOST], len: K };
+        let none = [Store::Entry { at: 0, value: 0 }; MOST];
+        let mut list = List { stores: none, len: K, clears: false };
         list.stores[..K].copy_from_slice(&stores);
         list
     }
@@ -37,7 +41,7 @@ impl<'a> List<'a> {
     pub fn clearing(header: &Header) -> List<'a> {
         match header.autoclear {
             0 => List::of([]),
-            _ => List::of([Store::Entry { at: AUTOCLEAR, value: 0 }]),
+            _ => List { clears: true, ..List::of([Store::Entry { at: AUTOCLEAR, value: 0 }]) },
         }
     }
 
@@ -59,6 +63,21 @@ impl<'a> List<'a> {
     /// Number of units.
     pub fn units(&self) -> u64 {
         self.stores().iter().map(Store::units).sum()
+    }
+
+    /// Each store is a step. The clearing unit goes first; where the list ends
+    /// with a count or an entry, this one makes use of what all others have made
+    /// ready, and goes last.
+    pub fn steps(&self) -> impl Iterator<Item = Step> + '_ {
+        self.stores().iter().enumerate().map(|(index, store)| {
+            let ends = index + 1 == self.len && !matches!(store, Store::Fill { .. });
+            let epoch = match (self.clears && index == 0, ends) {
+                (true, _) => 0,
+                (false, false) => 1,
+                (false, true) => 2,
+            };
+            store.step(epoch)
+        })
     }
 
     pub fn stores_a_count(&self) -> bool {
@@ -86,6 +105,15 @@ impl Store<'_> {
             Store::Fill { len, .. } => len as u64,
             Store::Count { .. } | Store::Entry { .. } => 1,
         }
+    }
+
+    pub fn step(&self, epoch: u64) -> Step {
+        let bytes = match *self {
+            Store::Fill { at, len, .. } => at..at + len,
+            Store::Count { cell, .. } => cell.bytes(),
+            Store::Entry { at, .. } => at..at + 8,
+        };
+        Step { at: bytes.start, len: bytes.len(), units: self.units(), epoch }
     }
 
     /// Makes the first `units` units of this run.

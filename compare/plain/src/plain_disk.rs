@@ -86,9 +86,8 @@ type Settled = Result<(u64, bool), u32>;
 
 fn settle(image: &[u8], call: Call) -> Settled {
     match call {
-        Call::Write { offset, data } => {
-            write_list(image, offset, data).map(|list| (list.units(), list.stores_a_count()))
-        }
+        Call::Write { offset, data } => write_list(image, offset, data.len() as u64, data)
+            .map(|list| (list.units(), list.stores_a_count())),
         Call::Discard { cluster } => {
             discard_list(image, cluster).map(|list| (list.units(), list.stores_a_count()))
         }
@@ -156,6 +155,14 @@ impl<'c> Series<'c> {
         let repaired = matches!((call, outcome), (Call::Repair { .. }, Outcome::Finished(_)));
         self.hold(image, repaired)?;
         Ok(outcome)
+    }
+
+    /// A call on `image` whose stores reached a drive in part, which then holds
+    /// `now`: the claim is that of a stopped call.
+    pub fn cut(&mut self, image: &[u8], call: Call, now: &[u8]) -> Result<(), String> {
+        let counts = settle(image, call).is_ok_and(|(_, counts)| counts);
+        self.feed(now, call, Outcome::Stopped(0), counts)?;
+        self.hold(now, false)
     }
 
     fn run(&self, image: &mut [u8], call: Call, allowance: u64) -> Outcome {

@@ -9,7 +9,7 @@ use crate::list::{List, Store};
 /// Writes `data` at `offset`, inside one guest cluster, cut after `allowance`
 /// units.
 pub fn write(image: &mut [u8], offset: u64, data: &[u8], allowance: u64) -> Outcome {
-    match write_list(image, offset, data) {
+    match write_list(image, offset, data.len() as u64, data) {
         Ok(list) => list.apply(image, allowance),
         Err(number) => Outcome::Refused(number),
     }
@@ -23,9 +23,16 @@ pub fn discard(image: &mut [u8], cluster: u64, allowance: u64) -> Outcome {
     }
 }
 
-pub(crate) fn write_list<'a>(image: &[u8], offset: u64, data: &'a [u8]) -> Result<List<'a>, u32> {
+/// Of a write of `len` bytes, which are `data`, or none where the list is only
+/// to be looked at.
+pub(crate) fn write_list<'a>(
+    image: &[u8],
+    offset: u64,
+    len: u64,
+    data: &'a [u8],
+) -> Result<List<'a>, u32> {
     let header = Header::judge(image)?;
-    Ok(write_stores(&header, image, offset, data)?.cleared_first(&header))
+    Ok(write_stores(&header, image, (offset, len), data)?.cleared_first(&header))
 }
 
 pub(crate) fn discard_list(image: &[u8], cluster: u64) -> Result<List<'static>, u32> {
@@ -36,22 +43,22 @@ pub(crate) fn discard_list(image: &[u8], cluster: u64) -> Result<List<'static>, 
 fn write_stores<'a>(
     header: &Header,
     image: &[u8],
-    offset: u64,
+    (offset, len): (u64, u64),
     data: &'a [u8],
 ) -> Result<List<'a>, u32> {
     let cluster = header.cluster();
     let start = offset as usize & (cluster - 1);
-    if !header.disk.holds(offset, data.len() as u64) || data.len() > cluster - start {
+    if !header.disk.holds(offset, len) || len > (cluster - start) as u64 {
         return Err(11);
     }
-    if data.is_empty() {
+    if len == 0 {
         return Ok(List::of([]));
     }
     let guest = offset >> header.cluster_bits;
     let whole = |at| Store::Fill { at, len: cluster, start, data };
     match header.own_slot(image, guest)? {
         Slot::Entry { mapping: Mapping { place, zeros: false }, .. } if place != 0 => {
-            Ok(List::of([Store::Fill { at: place + start, len: data.len(), start: 0, data }]))
+            Ok(List::of([Store::Fill { at: place + start, len: len as usize, start: 0, data }]))
         }
         Slot::Entry { at, mapping: Mapping { place, .. } } if place != 0 => {
             Ok(List::of([whole(place), Store::Entry { at, value: USED | place as u64 }]))

@@ -72,7 +72,7 @@ pub record Shots : Type 0 where
 
 pub record Wrong : Type 0 where
   pub many : judge (with-bytes 60 (bytes32 65)) ≡ 6
-  pub askew : judge (with-bytes 64 (bytes64 2056)) ≡ 21
+  pub askew : judge (with-bytes 60 (bytes32 1 ++ bytes64 2112)) ≡ 21
   pub past : judge (with-bytes 2084 (bytes32 8000)) ≡ 21
   pub past-last : judge (with-bytes 2148 (bytes32 8000)) ≡ 21
   pub l1-past : judge (with-bytes 2056 (bytes32 577)) ≡ 21

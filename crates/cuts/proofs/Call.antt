@@ -1,7 +1,6 @@
 -- What a discard, a repair and the four kinds of write store, and what every cut of them leaves. Assumes nothing.
 use mathlib.Core.Path.{_≡_, refl, sym, ap, _∙_}
 use mathlib.Core.Logic.{_⊎_, inl, inr, _≢_}
-use mathlib.Core.Bool.{false}
 use mathlib.Core.List.{List, [], _∷_}
 use Prim.Native.Nat.{ℕ, zero, suc, _+_, _-_, _*_, _/_, _%_, _^_, _≤_, _<_}
 use native.Mathlib.Nat.{div-lt-iff-lt-mul, mod-lt, zero-lt-suc, mul-le-mul-right}
@@ -14,7 +13,7 @@ use Rattle.cuts.proofs.Refs.{hit, hit-self, hit-zero, refs-fix, free-fi
 use Rattle.cuts.proofs.Cell.{enc, length-enc, small-enc, recell, length-recell, small-recell, cell-small, Small, Stored, stored, mem}
 use Rattle.cuts.proofs.Meta.{Geo, GeoOk, Codec, cell-in, rt, blk, cnt, row, col, fix, tab, dat, refsOf, Sound, Keep, dat-none, keep-sound, blk-0, blk-l1, fix-blk, fix-l1}
 use Rattle.cuts.proofs.Step.{shown, gread, gread-none, Quiet, tab-in, dat-in, fix-one, free-not-0, quiet-sound, free-step, count-step, entry-rt, entry-blk, entry-cnt, entry-dat-new, entry-refs, entry-sound, entry-reads, entry-read}
-use Rattle.cuts.proofs.Run.{Store, apply, Run, run-none, run-cons}
+use Rattle.cuts.proofs.Run.{Store, apply, Epoch, epoch-one}
 
 -- m0 is the first image: the header, but for its idle bytes, the refcount table and the snapshots' directory stay what they were there
 pub record Ok (g : Geo) (K : Codec) (m0 : ℕ → ℕ → ℕ) (img : List ℕ) : Type 0 where
@@ -42,26 +41,13 @@ shown-none d f b e = ap (λ (y : ℕ). shown y f b) e
 
 module _ (g : Geo) where
   unfoldable pub countStore : (ℕ → ℕ → ℕ) → ℕ → ℕ → Store
-  countStore m c v = record { part = false; w = blk g m (c / g .H); o = g .W * (c % g .H) / 8; bs = λ f. recell (g .W) f (g .W * (c % g .H)) v }
+  countStore m c v = record { w = blk g m (c / g .H); o = g .W * (c % g .H) / 8; bs = λ f. recell (g .W) f (g .W * (c % g .H)) v }
 
   unfoldable pub entryStore : ℕ → ℕ → ℕ → Store
-  entryStore t j v = record { part = false; w = t; o = 8 * j; bs = λ f. enc 8 v }
+  entryStore t j v = record { w = t; o = 8 * j; bs = λ f. enc 8 v }
 
   unfoldable pub linkStore : ℕ → ℕ → Store
-  linkStore i v = record { part = false; w = row g i; o = 8 * col g i; bs = λ f. enc 8 v }
-
-  -- none is a byte of a fill
-  pub count-whole : (m : ℕ → ℕ → ℕ) (c v : ℕ) → countStore m c v .part ≡ false
-  unfolding countStore
-  count-whole m c v = refl
-
-  pub entry-whole : (t j v : ℕ) → entryStore t j v .part ≡ false
-  unfolding entryStore
-  entry-whole t j v = refl
-
-  pub link-whole : (i v : ℕ) → linkStore i v .part ≡ false
-  unfolding linkStore
-  link-whole i v = refl
+  linkStore i v = record { w = row g i; o = 8 * col g i; bs = λ f. enc 8 v }
 
 -- what the guest reads in img and in img′
 module _ (g : Geo) (K : Codec) where
@@ -250,7 +236,7 @@ module _ (g : Geo) (K : Codec) (ok : GeoOk g K) (m0 : ℕ → ℕ → ℕ) where
 
   pub count-store-same : (m m′ : ℕ → ℕ → ℕ) (c v : ℕ) → blk g m′ (c / g .H) ≡ blk g m (c / g .H) → countStore g m′ c v ≡ countStore g m c v
   unfolding countStore
-  count-store-same m m′ c v e = λ q. record { part = false; w = e q; o = g .W * (c % g .H) / 8; bs = λ f. recell (g .W) f (g .W * (c % g .H)) v }
+  count-store-same m m′ c v e = λ q. record { w = e q; o = g .W * (c % g .H) / 8; bs = λ f. recell (g .W) f (g .W * (c % g .H)) v }
 
   pub in-blocks : (c : ℕ) → c < g .N → c / g .H < g .B
   in-blocks c l = div-lt-iff-lt-mul (ok .hpos) .1 (omega (arith, ok .blocks))
@@ -268,17 +254,15 @@ module _ (g : Geo) (K : Codec) (ok : GeoOk g K) (m0 : ℕ → ℕ → ℕ) where
   EndZ i j img s = Ok g K m0 s × Zeroed g K i j img s
 
   module _ (img : List ℕ) (k : Ok g K m0 img) (i j : ℕ) (l : i < g .L) (n : j < g .E) where
-    -- place given: the entry becomes 0, then the count falls by one
+    -- place given: the entry becomes 0; after a flush the count falls by one
     pub discard-run : dat g K (mem (g .C) img) i j ≢ 0
         → refsOf g K (mem (g .C) img) (tab g K (mem (g .C) img) i) ≤ 1 → refsOf g K (mem (g .C) img) (dat g K (mem (g .C) img) i j) ≤ 1
-        → Run (g .C) (MidZ i j img)
-        (entryStore g (tab g K (mem (g .C) img) i) j 0 ∷ countStore g (mem (g .C) img) (dat g K (mem (g .C) img) i j) (cnt g (mem (g .C) img) (dat g K (mem (g .C) img) i j) - 1) ∷ [])
-        img (EndZ i j img)
+        → Epoch (g .C) (MidZ i j img) (entryStore g (tab g K (mem (g .C) img) i) j 0 ∷ []) img
+        (λ s. Epoch (g .C) (MidZ i j img) (countStore g (mem (g .C) img) (dat g K (mem (g .C) img) i j) (cnt g (mem (g .C) img) (dat g K (mem (g .C) img) i j) - 1) ∷ []) s (EndZ i j img))
     unfolding SameGuest
     discard-run d one alone =
-        run-cons (g .C) (MidZ i j img) _ _ img (EndZ i j img) (entry-whole g _ _ _) (k, inl (λ a b x p q h. refl))
-        (run-cons (g .C) (MidZ i j img) _ _ img₁ (EndZ i j img) (count-whole g _ _ _) (e .fine, inr z₁)
-        (run-none (g .C) (MidZ i j img) img₂ (EndZ i j img) (c₂ .fine, inr z₂) (c₂ .fine, z₂)))
+        epoch-one (g .C) (MidZ i j img) _ img (λ s. Epoch (g .C) (MidZ i j img) (countStore g m c v ∷ []) s (EndZ i j img)) (k, inl (λ a b x p q h. refl)) (e .fine, inr z₁)
+        (epoch-one (g .C) (MidZ i j img) _ img₁ (EndZ i j img) (e .fine, inr z₁) (c₂ .fine, inr z₂) (c₂ .fine, z₂))
       where
         m : ℕ → ℕ → ℕ
         m = mem (g .C) img
@@ -316,9 +300,9 @@ module _ (g : Geo) (K : Codec) (ok : GeoOk g K) (m0 : ℕ → ℕ → ℕ) where
 
     -- a zero mark with no place
     pub unmark-run : tab g K (mem (g .C) img) i ≢ 0 → dat g K (mem (g .C) img) i j ≡ 0 → refsOf g K (mem (g .C) img) (tab g K (mem (g .C) img) i) ≤ 1
-        → Run (g .C) (MidZ i j img) (entryStore g (tab g K (mem (g .C) img) i) j 0 ∷ []) img (EndZ i j img)
+        → Epoch (g .C) (MidZ i j img) (entryStore g (tab g K (mem (g .C) img) i) j 0 ∷ []) img (EndZ i j img)
     unfolding SameGuest
-    unmark-run t d one = run-cons (g .C) (MidZ i j img) _ _ img (EndZ i j img) (entry-whole g _ _ _) (k, inl (λ a b x p q h. refl)) (run-none (g .C) (MidZ i j img) img₁ (EndZ i j img) (e .fine, inr z₁) (e .fine, z₁))
+    unmark-run t d one = epoch-one (g .C) (MidZ i j img) _ img (EndZ i j img) (k, inl (λ a b x p q h. refl)) (e .fine, inr z₁) (e .fine, z₁)
       where
         m : ℕ → ℕ → ℕ
         m = mem (g .C) img

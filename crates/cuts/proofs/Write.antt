@@ -12,13 +12,13 @@ use Rattle.cuts.proofs.Refs.{refs-fix, dat-fix}
 use Rattle.cuts.proofs.Cell.{num, enc, length-enc, small-enc, Small, Stored, mem}
 use Rattle.cuts.proofs.Meta.{Geo, GeoOk, Codec, cnt, row, col, Has, l2, fix, tab, dat, refsOf, Sound, Keep, dat-none, keep-blk, keep-tab, keep-dat, keep-refs, keep-sound, l1-0, fix-l1, tree-in, row-in, row-N}
 use Rattle.cuts.proofs.Step.{shown, gread, gread-none, Quiet, dat-in, fix-one, free-not-0, data-step, link-rt, link-away, link-sound, link-reads, link-zeros, link-read}
-use Rattle.cuts.proofs.Run.{apply, fill, starts, Run, run-none, run-cons, run-append, run-fill, small-mix}
+use Rattle.cuts.proofs.Run.{Store, apply, applyAll, apply-append, apply-fill, fill, Each, none, also, each-append, kept, Epoch, epoch-one, epoch-fill, small-mix}
 use lib.ListN.{replicate, length-replicate, length-append, List·getD-append}
 use lib.Seq.{getD-append-add}
 use Rattle.cuts.proofs.Cell.{small-append, stored-num, stored-apart}
 use Rattle.cuts.proofs.Step.{gread-keep, pair-or, steps-apart}
 use native.Mathlib.Nat.{zero-add}
-use Rattle.cuts.proofs.Call.{Ok, countStore, entryStore, linkStore, count-whole, entry-whole, link-whole, away, ok-next, next-small, next-stored, next-free, CountSet, then-count, one-fits, Entered, next-entry, SameGuest}
+use Rattle.cuts.proofs.Call.{Ok, countStore, entryStore, linkStore, away, ok-next, next-small, next-stored, next-free, CountSet, then-count, one-fits, Entered, next-entry, SameGuest}
 
 -- zeros around the data
 unfoldable pub around : ℕ → ℕ → List ℕ → List ℕ
@@ -66,6 +66,10 @@ pub num-zeros : (k : ℕ) (f : ℕ → ℕ) (o : ℕ) → ((x : ℕ) → o ≤ x
 unfolding num
 num-zeros zero f o h = refl
 num-zeros (suc k) f o h = omega (arith, num-zeros k f o (λ x a b. h x a (omega arith)), h (o + k) (omega arith) (omega arith))
+
+small-one : {v : ℕ} → v < 256 → Small (v ∷ [])
+small-one p zero = p
+small-one p (suc x) = zero-lt-suc 255
 
 from-start : (f : ℕ → ℕ) (A : List ℕ) (x : ℕ) → f (0 + x) ≡ getD A x 0 → f x ≡ getD A x 0
 from-start f A x e = ap f (sym (zero-add x)) ∙ e
@@ -166,9 +170,9 @@ module _ (g : Geo) (K : Codec) (ok : GeoOk g K) (m0 : ℕ → ℕ → ℕ) where
         out x q (inr e) = st .after w x q e
 
     pub place-run : dat g K (mem (g .C) img) i j ≢ 0 → refsOf g K (mem (g .C) img) (dat g K (mem (g .C) img) i j) ≤ 1 → K .flag (l2 g (mem (g .C) img) (tab g K (mem (g .C) img) i) j) ≡ 0
-        → Run (g .C) (MidP i j o bs img) (fill (dat g K (mem (g .C) img) i j) o bs) img (EndW i j o bs img)
+        → Epoch (g .C) (MidP i j o bs img) (fill (dat g K (mem (g .C) img) i j) o bs) img (EndW i j o bs img)
     place-run d one f =
-        run-fill (g .C) (MidP i j o bs img) (dat g K (mem (g .C) img) i j) o bs img (EndW i j o bs img)
+        epoch-fill (g .C) (MidP i j o bs img) (dat g K (mem (g .C) img) i j) o bs img (EndW i j o bs img)
         (λ vs x. let r : EndW i j o vs img (sets img (dat g K (mem (g .C) img) i j * g .C + o) vs) = place-end d one f vs (omega (arith, x .len)) (small-mix _ img bs vs (k .small) sm x) in
         (r .0, record { bytes = vs; len = x .len; each = λ y q. seen vs y (x .each y q); wrote = r .1 }))
         (place-end d one f bs inC sm)
@@ -219,6 +223,19 @@ module _ (g : Geo) (K : Codec) (ok : GeoOk g K) (m0 : ℕ → ℕ → ℕ) where
     where
       r : Ok g K m0 (sets s (w * g .C + o) vs) × Quiet g K (mem (g .C) s) (mem (g .C) (sets s (w * g .C + o) vs))
       r = next-free g K ok m0 s (t .fine) w o vs l h p (still-refs img s t w ∙ f)
+
+  -- a unit that leaves still what is so: a count that is no less than the references, and bytes of a cluster that nothing refers to
+  abbrev pub Silent : List ℕ → Store → Type 0
+  Silent img u = (s : List ℕ) → Still img s → Still img (apply (g .C) u s)
+
+  pub silent-count : (img : List ℕ) (c v : ℕ) → c < g .N → v < 2 ^ g .W → refsOf g K (mem (g .C) img) c ≤ v → Silent img (countStore g (mem (g .C) img) c v)
+  silent-count img c v l lv h s t = still-count img s t c v l lv h .0
+
+  silent-fill : (img : List ℕ) (w o : ℕ) (vs : List ℕ) → w < g .N → o + length vs ≤ g .C → Small vs → refsOf g K (mem (g .C) img) w ≡ 0 → Each (Silent img) (fill w o vs)
+  unfolding fill apply
+  silent-fill img w o [] l h p f = none
+  silent-fill img w o (v ∷ vs) l h p f =
+      also (λ s t. still-fill img s t w o (v ∷ []) l (omega arith) (small-one (p zero)) f .0) (silent-fill img w (suc o) vs l (omega arith) (λ x. p (suc x)) f)
 
   module _ (img : List ℕ) (k : Ok g K m0 img) (i j o : ℕ) (bs : List ℕ) (l : i < g .L) (n : j < g .E) (inC : o + length bs ≤ g .C) (sm : Small bs) where
     -- what a new entry for cluster c brings to light, where the guest saw zeros
@@ -309,24 +326,23 @@ module _ (g : Geo) (K : Codec) (ok : GeoOk g K) (m0 : ℕ → ℕ → ℕ) where
         see a b x e q w (inr u) = r .2 a b x e q w u
         see a b x e q w (inl u) = rw (u .0, u .1) (gread-marked g K m′ i j x ff ∙ sym (gread-marked g K m i j x f))
 
-    -- a place under a zero mark: the whole cluster, then the entry
+    -- the unit that brings the data to light, after a flush: what went before it shows nothing
+    light : (s : List ℕ) → Still img s → (u : Store) → EndW i j o bs img (apply (g .C) u s) → Epoch (g .C) (MidW i j o bs img) (u ∷ []) s (EndW i j o bs img)
+    light s t u r = epoch-one (g .C) (MidW i j o bs img) u s (EndW i j o bs img) (t .fine, inl (t .reads)) (r .0, inr (r .1)) r
+
+    -- a place under a zero mark: the whole cluster; after a flush the entry
     pub marked-run : dat g K (mem (g .C) img) i j ≢ 0
         → refsOf g K (mem (g .C) img) (tab g K (mem (g .C) img) i) ≤ 1 → refsOf g K (mem (g .C) img) (dat g K (mem (g .C) img) i j) ≤ 1
         → K .flag (l2 g (mem (g .C) img) (tab g K (mem (g .C) img) i) j) ≢ 0
-        → Run (g .C) (MidW i j o bs img)
-        (fill (dat g K (mem (g .C) img) i j) 0 (around (g .C) o bs) ++ (entryStore g (tab g K (mem (g .C) img) i) j (K .mk (dat g K (mem (g .C) img) i j)) ∷ []))
-        img (EndW i j o bs img)
-    unfolding starts
+        → Epoch (g .C) (MidW i j o bs img) (fill (dat g K (mem (g .C) img) i j) 0 (around (g .C) o bs)) img
+        (λ s. Epoch (g .C) (MidW i j o bs img) (entryStore g (tab g K (mem (g .C) img) i) j (K .mk (dat g K (mem (g .C) img) i j)) ∷ []) s (EndW i j o bs img))
     marked-run d one alone f =
-        run-append (g .C) (MidW i j o bs img) _ _ img P (EndW i j o bs img) (entry-whole g _ _ _)
-        (run-fill (g .C) (MidW i j o bs img) c 0 A img P
+        epoch-fill (g .C) (MidW i j o bs img) c 0 A img (λ s. Epoch (g .C) (MidW i j o bs img) (entryStore g (tab g K m i) j (K .mk c) ∷ []) s (EndW i j o bs img))
         (λ vs x. let r = filled vs (omega (arith, x .len, lA)) (small-mix _ img A vs (k .small) smA x) in (r .0 .fine, inl (r .0 .reads)))
         (let r = filled A (omega (arith, lA)) smA in
-        (r .0, λ x q. from-start (mem (g .C) (sets img (c * g .C + 0) A) c) A x (r .1 .inside x (omega (arith, lA))))))
-        (λ s p. run-cons (g .C) (MidW i j o bs img) _ _ s (EndW i j o bs img) (entry-whole g _ _ _) (p .0 .fine, inl (p .0 .reads))
-        (let r : EndW i j o bs img (apply (g .C) (entryStore g (tab g K m i) j (K .mk c)) s) =
-        commit s (p .0) c cN d tb one (λ z. alone) (inr (sym (keep-dat g K ok m (mem (g .C) s) (p .0 .keep) i j l n))) (p .1) (λ x q. gread-marked g K m i j x f) in
-        run-none (g .C) (MidW i j o bs img) _ (EndW i j o bs img) (r .0, inr (r .1)) r))
+        light _ (r .0) _
+        (commit _ (r .0) c cN d tb one (λ z. alone) (inr (sym (keep-dat g K ok m _ (r .0 .keep) i j l n)))
+        (λ x q. from-start (mem (g .C) (sets img (c * g .C + 0) A) c) A x (r .1 .inside x (omega (arith, lA)))) (λ x q. gread-marked g K m i j x f)))
       where
         m : ℕ → ℕ → ℕ
         m = mem (g .C) img
@@ -349,31 +365,23 @@ module _ (g : Geo) (K : Codec) (ok : GeoOk g K) (m0 : ℕ → ℕ → ℕ) where
         cN : c < g .N
         cN = dat-in g K ok m (k .sound) i j l n
 
-        P : List ℕ → Type 0
-        P s = Still img s × ((x : ℕ) → x < g .C → mem (g .C) s c x ≡ getD A x 0)
-
         filled : (vs : List ℕ) → 0 + length vs ≤ g .C → Small vs
             → Still img (sets img (c * g .C + 0) vs) × Stored (g .C) m (mem (g .C) (sets img (c * g .C + 0) vs)) c 0 vs
         filled vs h p = marked-fill d alone f vs h p
 
-    -- no place: the count, the whole cluster, the entry
+    -- no place: the count and the whole cluster; after a flush the entry
     pub alloc-run : (c : ℕ) → c < g .N → cnt g (mem (g .C) img) c ≡ 0 → tab g K (mem (g .C) img) i ≢ 0 → dat g K (mem (g .C) img) i j ≡ 0
         → refsOf g K (mem (g .C) img) (tab g K (mem (g .C) img) i) ≤ 1
-        → Run (g .C) (MidW i j o bs img)
-        (countStore g (mem (g .C) img) c 1 ∷ (fill c 0 (around (g .C) o bs) ++ (entryStore g (tab g K (mem (g .C) img) i) j (K .mk c) ∷ [])))
-        img (EndW i j o bs img)
-    unfolding starts
-    alloc-run c cN z tb d one =
-        run-cons (g .C) (MidW i j o bs img) _ _ img (EndW i j o bs img) (count-whole g _ _ _) (k, inl (st₀ .reads))
-        (run-append (g .C) (MidW i j o bs img) _ _ s₁ P (EndW i j o bs img) (entry-whole g _ _ _)
-        (run-fill (g .C) (MidW i j o bs img) c 0 A s₁ P
-        (λ vs x. let r = filled vs (omega (arith, x .len, lA)) (small-mix _ s₁ A vs (st₁ .0 .fine .small) smA x) in (r .0 .fine, inl (r .0 .reads)))
-        (let r = filled A (omega (arith, lA)) smA in
-        (r .0, r .1 c cN ∙ st₁ .1, λ x q. from-start (mem (g .C) (sets s₁ (c * g .C + 0) A) c) A x (r .2 .inside x (omega (arith, lA))))))
-        (λ s p. run-cons (g .C) (MidW i j o bs img) _ _ s (EndW i j o bs img) (entry-whole g _ _ _) (p .0 .fine, inl (p .0 .reads))
-        (let r : EndW i j o bs img (apply (g .C) (entryStore g (tab g K m i) j (K .mk c)) s) =
-        commit s (p .0) c cN c0 tb one (λ y. absurd (y d)) (inl (still-refs img s (p .0) c ∙ free, omega (arith, p .1))) (p .2) (λ x q. gread-none g K m i j x d) in
-        run-none (g .C) (MidW i j o bs img) _ (EndW i j o bs img) (r .0, inr (r .1)) r)))
+        → Epoch (g .C) (MidW i j o bs img) (countStore g (mem (g .C) img) c 1 ∷ fill c 0 (around (g .C) o bs)) img
+        (λ s. Epoch (g .C) (MidW i j o bs img) (entryStore g (tab g K (mem (g .C) img) i) j (K .mk c) ∷ []) s (EndW i j o bs img))
+    unfolding applyAll
+    alloc-run c cN z tb d one = (
+      (λ cs. let t = kept (g .C) (Still img) silent cs img st₀ in (t .fine, inl (t .reads))),
+      rw (apply-fill (g .C) c 0 A s₁)
+          (light _ (st₂ .0) _
+          (commit _ (st₂ .0) c cN c0 tb one (λ y. absurd (y d)) (inl (still-refs img _ (st₂ .0) c ∙ free, omega (arith, st₂ .1 c cN, st₁ .1)))
+          (λ x q. from-start (mem (g .C) (sets s₁ (c * g .C + 0) A) c) A x (st₂ .2 .inside x (omega (arith, lA)))) (λ x q. gread-none g K m i j x d))),
+    )
       where
         m : ℕ → ℕ → ℕ
         m = mem (g .C) img
@@ -403,13 +411,12 @@ module _ (g : Geo) (K : Codec) (ok : GeoOk g K) (m0 : ℕ → ℕ → ℕ) where
             × ((a x : ℕ) → x < g .C → refsOf g K m a ≡ 0 → mem (g .C) s₁ a x ≡ m a x)
         st₁ = still-count img img st₀ c 1 cN (one-fits g K ok m0) (omega (arith, free))
 
-        P : List ℕ → Type 0
-        P s = Still img s × (cnt g (mem (g .C) s) c ≡ 1) × ((x : ℕ) → x < g .C → mem (g .C) s c x ≡ getD A x 0)
+        silent : Each (Silent img) (countStore g m c 1 ∷ fill c 0 A)
+        silent = also (silent-count img c 1 cN (one-fits g K ok m0) (omega (arith, free))) (silent-fill img c 0 A cN (omega (arith, lA)) smA free)
 
-        filled : (vs : List ℕ) → 0 + length vs ≤ g .C → Small vs
-            → Still img (sets s₁ (c * g .C + 0) vs) × ((x : ℕ) → x < g .N → cnt g (mem (g .C) (sets s₁ (c * g .C + 0) vs)) x ≡ cnt g (mem (g .C) s₁) x)
-            × Stored (g .C) (mem (g .C) s₁) (mem (g .C) (sets s₁ (c * g .C + 0) vs)) c 0 vs
-        filled vs h p = still-fill img s₁ (st₁ .0) c 0 vs cN h p free
+        st₂ : Still img (sets s₁ (c * g .C + 0) A) × ((x : ℕ) → x < g .N → cnt g (mem (g .C) (sets s₁ (c * g .C + 0) A)) x ≡ cnt g (mem (g .C) s₁) x)
+            × Stored (g .C) (mem (g .C) s₁) (mem (g .C) (sets s₁ (c * g .C + 0) A)) c 0 A
+        st₂ = still-fill img s₁ (st₁ .0) c 0 A cN (omega (arith, lA)) smA free
 
     -- the L1 entry for a table t that is ready
     pub record Ready (t c : ℕ) (s : List ℕ) : Type 0 where
@@ -547,72 +554,31 @@ module _ (g : Geo) (K : Codec) (ok : GeoOk g K) (m0 : ℕ → ℕ → ℕ) where
           r : Still img (sets s (t * g .C + 8 * j) (enc 8 (K .mk c))) × ((x : ℕ) → x < g .N → cnt g m′ x ≡ cnt g ms x) × Stored (g .C) ms m′ t (8 * j) (enc 8 (K .mk c))
           r = still-fill img s (p .still) t (8 * j) (enc 8 (K .mk c)) tN (omega (arith, ok .c8, length-enc 8 (K .mk c))) (small-enc 8 (K .mk c)) free-t
 
-      last : Has g i → tab g K (mem (g .C) img) i ≡ 0 → (s : List ℕ) → P₂ s → Run (g .C) (MidW i j o bs img) (entryStore g t j (K .mk c) ∷ (linkStore g i (K .mk t) ∷ [])) s (EndW i j o bs img)
-      last hi z s p =
-          let e : Ready t c (apply (g .C) (entryStore g t j (K .mk c)) s) = step-entry s p in
-          let f : EndW i j o bs img (apply (g .C) (linkStore g i (K .mk t)) (apply (g .C) (entryStore g t j (K .mk c)) s)) = link-commit hi t c tN cN tc zt zc z _ e in
-          run-cons (g .C) (MidW i j o bs img) _ _ s (EndW i j o bs img) (entry-whole g _ _ _) (p .still .fine, inl (p .still .reads))
-          (run-cons (g .C) (MidW i j o bs img) _ _ _ (EndW i j o bs img) (link-whole g _ _) (e .still .fine, inl (e .still .reads))
-          (run-none (g .C) (MidW i j o bs img) _ (EndW i j o bs img) (f .0, inr (f .1)) f))
+      abbrev A : List ℕ
+      A = around (g .C) o bs
 
-      middle : (s : List ℕ) → P₁ s → Run (g .C) (MidW i j o bs img) (countStore g (mem (g .C) img) c 1 ∷ fill c 0 (around (g .C) o bs)) s P₂
-      middle s p =
-          run-cons (g .C) (MidW i j o bs img) _ _ s P₂ (count-whole g _ _ _) (p .still .fine, inl (p .still .reads))
-          (run-fill (g .C) (MidW i j o bs img) c 0 A s₁ P₂
-          (λ vs x. let r = filled vs (omega (arith, x .len, lA)) (small-mix _ s₁ A vs (st₁ .0 .fine .small) smA x) in (r .0 .fine, inl (r .0 .reads)))
-          (let r = filled A (omega (arith, lA)) smA in
-          record {
-            still = r .0;
-            count-t = r .1 t tN ∙ st₁ .2 t tN tc ∙ p .count-t;
-            count-c = r .1 c cN ∙ st₁ .1;
-            zeros = λ x q. r .2 .cluster t x q tc ∙ st₁ .3 t x q free-t ∙ p .zeros x q;
-            body = λ x q. from-start (mem (g .C) (sets s₁ (c * g .C + 0) A) c) A x (r .2 .inside x (omega (arith, lA)));
-          }))
-        where
-          m : ℕ → ℕ → ℕ
-          m = mem (g .C) img
+      abbrev Z : List ℕ
+      Z = replicate (g .C) 0
 
-          A : List ℕ
-          A = around (g .C) o bs
+      lA : length A ≡ g .C
+      lA = length-around (g .C) o bs inC
 
-          lA : length A ≡ g .C
-          lA = length-around (g .C) o bs inC
+      lZ : length Z ≡ g .C
+      lZ = length-replicate {A = ℕ} (g .C) 0
 
-          smA : Small A
-          smA = small-around (g .C) o bs sm
-
-          s₁ : List ℕ
-          s₁ = apply (g .C) (countStore g m c 1) s
-
-          st₁ : Still img s₁ × (cnt g (mem (g .C) s₁) c ≡ 1) × ((x : ℕ) → x < g .N → x ≢ c → cnt g (mem (g .C) s₁) x ≡ cnt g (mem (g .C) s) x)
-              × ((a x : ℕ) → x < g .C → refsOf g K m a ≡ 0 → mem (g .C) s₁ a x ≡ mem (g .C) s a x)
-          st₁ = still-count img s (p .still) c 1 cN (one-fits g K ok m0) (omega (arith, free-c))
-
-          filled : (vs : List ℕ) → 0 + length vs ≤ g .C → Small vs
-              → Still img (sets s₁ (c * g .C + 0) vs) × ((x : ℕ) → x < g .N → cnt g (mem (g .C) (sets s₁ (c * g .C + 0) vs)) x ≡ cnt g (mem (g .C) s₁) x)
-              × Stored (g .C) (mem (g .C) s₁) (mem (g .C) (sets s₁ (c * g .C + 0) vs)) c 0 vs
-          filled vs h q = still-fill img s₁ (st₁ .0) c 0 vs cN h q free-c
-
-      first : Run (g .C) (MidW i j o bs img) (countStore g (mem (g .C) img) t 1 ∷ fill t 0 (replicate (g .C) 0)) img P₁
-      first =
-          run-cons (g .C) (MidW i j o bs img) _ _ img P₁ (count-whole g _ _ _) (k, inl (still-start img k .reads))
-          (run-fill (g .C) (MidW i j o bs img) t 0 A s₁ P₁
-          (λ vs x. let r = filled vs (omega (arith, x .len, lA)) (small-mix _ s₁ A vs (st₁ .0 .fine .small) (small-replicate (g .C)) x) in (r .0 .fine, inl (r .0 .reads)))
-          (let r = filled A (omega (arith, lA)) (small-replicate (g .C)) in
-          record {
+      -- the table's count and its zeros
+      step-table : P₁ (applyAll (g .C) (countStore g (mem (g .C) img) t 1 ∷ fill t 0 Z) img)
+      unfolding applyAll
+      step-table =
+          rw (apply-fill (g .C) t 0 Z s₁)
+          (record {
             still = r .0;
             count-t = r .1 t tN ∙ st₁ .1;
-            zeros = λ x q. from-start (mem (g .C) (sets s₁ (t * g .C + 0) A) t) A x (r .2 .inside x (omega (arith, lA))) ∙ zeros-at (g .C) x;
-          }))
+            zeros = λ x q. from-start (mem (g .C) (sets s₁ (t * g .C + 0) Z) t) Z x (r .2 .inside x (omega (arith, lZ))) ∙ zeros-at (g .C) x;
+          })
         where
           m : ℕ → ℕ → ℕ
           m = mem (g .C) img
-
-          A : List ℕ
-          A = replicate (g .C) 0
-
-          lA : length A ≡ g .C
-          lA = length-replicate {A = ℕ} (g .C) 0
 
           s₁ : List ℕ
           s₁ = apply (g .C) (countStore g m t 1) img
@@ -621,18 +587,63 @@ module _ (g : Geo) (K : Codec) (ok : GeoOk g K) (m0 : ℕ → ℕ → ℕ) where
               × ((a x : ℕ) → x < g .C → refsOf g K m a ≡ 0 → mem (g .C) s₁ a x ≡ m a x)
           st₁ = still-count img img (still-start img k) t 1 tN (one-fits g K ok m0) (omega (arith, free-t))
 
-          filled : (vs : List ℕ) → 0 + length vs ≤ g .C → Small vs
-              → Still img (sets s₁ (t * g .C + 0) vs) × ((x : ℕ) → x < g .N → cnt g (mem (g .C) (sets s₁ (t * g .C + 0) vs)) x ≡ cnt g (mem (g .C) s₁) x)
-              × Stored (g .C) (mem (g .C) s₁) (mem (g .C) (sets s₁ (t * g .C + 0) vs)) t 0 vs
-          filled vs h q = still-fill img s₁ (st₁ .0) t 0 vs tN h q free-t
+          r : Still img (sets s₁ (t * g .C + 0) Z) × ((x : ℕ) → x < g .N → cnt g (mem (g .C) (sets s₁ (t * g .C + 0) Z)) x ≡ cnt g (mem (g .C) s₁) x)
+              × Stored (g .C) (mem (g .C) s₁) (mem (g .C) (sets s₁ (t * g .C + 0) Z)) t 0 Z
+          r = still-fill img s₁ (st₁ .0) t 0 Z tN (omega (arith, lZ)) (small-replicate (g .C)) free-t
 
-      -- no table: its count, its zeros, the data's count, the data's cluster, the L2 entry, the L1 entry
+      -- the data's count and its cluster
+      step-data : (s : List ℕ) → P₁ s → P₂ (applyAll (g .C) (countStore g (mem (g .C) img) c 1 ∷ fill c 0 A) s)
+      unfolding applyAll
+      step-data s p =
+          rw (apply-fill (g .C) c 0 A s₁)
+          (record {
+            still = r .0;
+            count-t = r .1 t tN ∙ st₁ .2 t tN tc ∙ p .count-t;
+            count-c = r .1 c cN ∙ st₁ .1;
+            zeros = λ x q. r .2 .cluster t x q tc ∙ st₁ .3 t x q free-t ∙ p .zeros x q;
+            body = λ x q. from-start (mem (g .C) (sets s₁ (c * g .C + 0) A) c) A x (r .2 .inside x (omega (arith, lA)));
+          })
+        where
+          m : ℕ → ℕ → ℕ
+          m = mem (g .C) img
+
+          s₁ : List ℕ
+          s₁ = apply (g .C) (countStore g m c 1) s
+
+          st₁ : Still img s₁ × (cnt g (mem (g .C) s₁) c ≡ 1) × ((x : ℕ) → x < g .N → x ≢ c → cnt g (mem (g .C) s₁) x ≡ cnt g (mem (g .C) s) x)
+              × ((a x : ℕ) → x < g .C → refsOf g K m a ≡ 0 → mem (g .C) s₁ a x ≡ mem (g .C) s a x)
+          st₁ = still-count img s (p .still) c 1 cN (one-fits g K ok m0) (omega (arith, free-c))
+
+          r : Still img (sets s₁ (c * g .C + 0) A) × ((x : ℕ) → x < g .N → cnt g (mem (g .C) (sets s₁ (c * g .C + 0) A)) x ≡ cnt g (mem (g .C) s₁) x)
+              × Stored (g .C) (mem (g .C) s₁) (mem (g .C) (sets s₁ (c * g .C + 0) A)) c 0 A
+          r = still-fill img s₁ (st₁ .0) c 0 A cN (omega (arith, lA)) (small-around (g .C) o bs sm) free-c
+
+      -- the entry in the table that nothing refers to yet
+      silent-entry : Silent img (entryStore g t j (K .mk c))
+      unfolding apply entryStore
+      silent-entry s p = still-fill img s p t (8 * j) (enc 8 (K .mk c)) tN (omega (arith, ok .c8, length-enc 8 (K .mk c))) (small-enc 8 (K .mk c)) free-t .0
+
+      abbrev pub ahead : List Store
+      ahead =
+          (countStore g (mem (g .C) img) t 1 ∷ fill t 0 (replicate (g .C) 0))
+          ++ ((countStore g (mem (g .C) img) c 1 ∷ fill c 0 (around (g .C) o bs)) ++ (entryStore g t j (K .mk c) ∷ []))
+
+      silent : Each (Silent img) ahead
+      silent =
+          each-append
+          (also (silent-count img t 1 tN (one-fits g K ok m0) (omega (arith, free-t))) (silent-fill img t 0 Z tN (omega (arith, lZ)) (small-replicate (g .C)) free-t))
+          (each-append
+          (also (silent-count img c 1 cN (one-fits g K ok m0) (omega (arith, free-c))) (silent-fill img c 0 A cN (omega (arith, lA)) (small-around (g .C) o bs sm) free-c))
+          (also silent-entry none))
+
+      -- no table: its count, its zeros, the data's count, the data's cluster, the L2 entry; after a flush the L1 entry
       pub table-run : Has g i → tab g K (mem (g .C) img) i ≡ 0
-          → Run (g .C) (MidW i j o bs img)
-          ((countStore g (mem (g .C) img) t 1 ∷ fill t 0 (replicate (g .C) 0))
-          ++ ((countStore g (mem (g .C) img) c 1 ∷ fill c 0 (around (g .C) o bs)) ++ (entryStore g t j (K .mk c) ∷ (linkStore g i (K .mk t) ∷ []))))
-          img (EndW i j o bs img)
-      unfolding starts
-      table-run hi z =
-          run-append (g .C) (MidW i j o bs img) _ _ img P₁ (EndW i j o bs img) (count-whole g _ _ _) first
-          (λ s p. run-append (g .C) (MidW i j o bs img) _ _ s P₂ (EndW i j o bs img) (entry-whole g _ _ _) (middle s p) (last hi z))
+          → Epoch (g .C) (MidW i j o bs img) ahead img (λ s. Epoch (g .C) (MidW i j o bs img) (linkStore g i (K .mk t) ∷ []) s (EndW i j o bs img))
+      unfolding applyAll
+      table-run hi z = (
+        (λ cs. let p = kept (g .C) (Still img) silent cs img (still-start img k) in (p .fine, inl (p .reads))),
+        rw (apply-append, apply-append) (link _ (step-entry _ (step-data _ step-table))),
+      )
+        where
+          link : (s : List ℕ) → Ready t c s → Epoch (g .C) (MidW i j o bs img) (linkStore g i (K .mk t) ∷ []) s (EndW i j o bs img)
+          link s e = light s (e .still) (linkStore g i (K .mk t)) (link-commit hi t c tN cN tc zt zc z s e)

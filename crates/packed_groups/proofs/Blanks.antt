@@ -13,8 +13,8 @@ use Rattle.choice.specs.Pick.{all, count}
 use Rattle.choice.proofs.Searches.{count-same}
 use Rattle.choice.proofs.Found.{count-false}
 use Rattle.packed.specs.Packed.{packed, zeroAt, unlikeAt, underAt}
-use Rattle.packed_narrow.specs.Filled.{filledAt}
-use Rattle.packed_narrow.proofs.Filling.{zero-figure, first-filled}
+use Rattle.packed_filled.specs.Filled.{filledAt}
+use Rattle.packed_narrow.proofs.Blanks.{zero-figure, first-filled}
 
 -- where the first figure of a part is not 0
 pub part-filled : (F : List ℕ) (k : ℕ) → (getD F k 0 ≡ 0 → ⊥) → all (λ b. eqb b 0) (take 128 (drop k F)) ≡ false

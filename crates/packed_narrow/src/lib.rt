@@ -8,9 +8,6 @@ ghost use Rattle.packed.specs.Packed.{unlikeAt, underAt};
 ghost use Rattle.packed.specs.Figures.{Ready, Tallied, Grouped};
 use packed::Compared;
 
-mod bytes;
-mod filled;
-
 // A group of bytes with whole numbers in each, against any figures.
 fn spread(block: &[u8], order: u32, figures: &[u8]) -> Compared
     requires { ⌜ (order ≤ 3) × Grouped (2 ^ (3 - order)) (now block) (now figures) ⌝ }
@@ -25,7 +22,7 @@ fn spread(block: &[u8], order: u32, figures: &[u8]) -> Compared
     if order == 2 {
         return packed_lanes::halves::group4(block, figures);
     }
-    bytes::group8(block, figures)
+    packed_bytes::group8(block, figures)
 }
 
 // Whether figures are all 0. In a full image the first one tells that they are not.
@@ -47,7 +44,7 @@ fn group(block: &[u8], order: u32, figures: &[u8]) -> Compared
 {
     if all_blank(figures) {
         return Compared {
-            unlike: filled::filled(block, order),
+            unlike: packed_filled::filled(block, order),
             under: 0,
         };
     }

@@ -4,12 +4,8 @@ ghost use Prim.Native.Nat.{_/_, _≤_};
 ghost use lib.ListN.{length};
 ghost use Rattle.choice.specs.Pick.{count};
 ghost use Rattle.packed.specs.Packed.{unlikeAt, underAt, Lie};
-ghost use Rattle.packed_wide.specs.Twos.{twos, many, Ready, Tallied};
+ghost use Rattle.packed_twos.specs.Twos.{twos, many, Ready, Tallied};
 use packed::Compared;
-
-mod each;
-mod lows;
-mod whole;
 
 // The arrays for the figures' low bytes. They are functions so that their length is all that a proof knows of them.
 fn short_room() -> [u8; 512]
@@ -29,11 +25,11 @@ fn by_bytes(block: &[u8], order: u32, figures: &[u8], bytes: &mut [u8]) -> Compa
     requires { ⌜ Ready order (now block) (now figures) × (many (now figures) ≤ length (now bytes)) ⌝ }
     ensures { λ r. ⌜ Tallied order (now (block .entry)) (now (figures .entry)) (r .unlike) (r .under) ⌝ }
 {
-    if lows::narrowed(figures, bytes) {
+    if packed_twos::lows::narrowed(figures, bytes) {
         let m = figures.len() / 2;
         return packed_figures::compare(block, order, &bytes[0..m]);
     }
-    each::numbers(block, order, figures)
+    packed_twos::each::numbers(block, order, figures)
 }
 
 // By way of a short array where it is enough: clearing a long one takes as long as the counts of a small cluster.
@@ -59,7 +55,7 @@ pub fn compare(block: &[u8], order: u32, figures: &[u8]) -> Compared
     ensures { λ r. ⌜ (r .unlike ≡ count (unlikeAt order (now (block .entry)) (twos (now (figures .entry)) (length (now (figures .entry)) / 2))) 0 (length (now (figures .entry)) / 2)) × (r .under ≡ count (underAt order (now (block .entry)) (twos (now (figures .entry)) (length (now (figures .entry)) / 2))) 0 (length (now (figures .entry)) / 2)) ⌝ }
 {
     if order == 4 {
-        return whole::numbers16(block, figures);
+        return packed_sixteen::numbers16(block, figures);
     }
     if figures.len() <= 1024 {
         return short(block, order, figures);

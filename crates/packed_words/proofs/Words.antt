@@ -13,7 +13,7 @@ use Rattle.widths.proofs.Cells.{Small}
 use Rattle.packed.specs.Packed.{zeroAt}
 use Rattle.packed.specs.Lanes.{lanes, bytesAt}
 use Rattle.packed.proofs.Turned.{same32, whole32}
-use Rattle.packed_narrow.specs.Filled.{filledAt}
+use Rattle.packed_filled.specs.Filled.{filledAt}
 use Rattle.packed_whole.proofs.Told.{unlike-is}
 
 -- one number more

@@ -6,7 +6,7 @@ ghost use lib.ListN.{length};
 ghost use Rattle.choice.specs.Pick.{if_then_else_, count};
 ghost use Rattle.packed.specs.Packed.{unlikeAt, underAt};
 ghost use Rattle.packed.specs.Figures.{Ready};
-ghost use Rattle.packed_narrow.specs.Filled.{filledAt};
+ghost use Rattle.packed_filled.specs.Filled.{filledAt};
 use packed::Compared;
 
 // 1 where a turned number is not 0.

@@ -6,33 +6,30 @@ ghost use lib.ListN.{length};
 ghost use Rattle.choice.specs.Pick.{first};
 ghost use Rattle.packed.specs.Packed.{zeroAt};
 
-mod bytes;
-mod whole;
-
 // Whether one of the numbers in 512 bytes is 0. The usual width comes first: for one block the tests count.
 pub fn zero_in_512(part: &[u8], order: u32) -> bool
     requires { ⌜ (order ≤ 6) × (length (now part) ≡ 512) ⌝ }
     ensures { λ r. ⌜ r ≡ ltb (first (zeroAt order (now (part .entry))) 0 (2 ^ (12 - order))) (2 ^ (12 - order)) ⌝ }
 {
     if order == 4 {
-        return whole::some16(part, 256);
+        return packed_zerowords::some16(part, 256);
     }
     if order == 0 {
-        return bytes::some_in_bytes(part, 0, 512);
+        return packed_zerobytes::some_in_bytes(part, 0, 512);
     }
     if order == 1 {
-        return bytes::some_in_bytes(part, 1, 512);
+        return packed_zerobytes::some_in_bytes(part, 1, 512);
     }
     if order == 2 {
-        return bytes::some_halves(part, 512);
+        return packed_zerobytes::some_halves(part, 512);
     }
     if order == 3 {
-        return bytes::some_in_bytes(part, 3, 512);
+        return packed_zerobytes::some_in_bytes(part, 3, 512);
     }
     if order == 5 {
-        return whole::some32(part, 128);
+        return packed_zerowords::some32(part, 128);
     }
-    whole::some64(part, 64)
+    packed_zerowords::some64(part, 64)
 }
 
 // Whether one of the numbers in 32 bytes is 0.
@@ -41,22 +38,22 @@ pub fn zero_in_32(part: &[u8], order: u32) -> bool
     ensures { λ r. ⌜ r ≡ ltb (first (zeroAt order (now (part .entry))) 0 (2 ^ (8 - order))) (2 ^ (8 - order)) ⌝ }
 {
     if order == 4 {
-        return whole::some16(part, 16);
+        return packed_zerowords::some16(part, 16);
     }
     if order == 0 {
-        return bytes::some_in_bytes(part, 0, 32);
+        return packed_zerobytes::some_in_bytes(part, 0, 32);
     }
     if order == 1 {
-        return bytes::some_in_bytes(part, 1, 32);
+        return packed_zerobytes::some_in_bytes(part, 1, 32);
     }
     if order == 2 {
-        return bytes::some_in_bytes(part, 2, 32);
+        return packed_zerobytes::some_in_bytes(part, 2, 32);
     }
     if order == 3 {
-        return bytes::some_in_bytes(part, 3, 32);
+        return packed_zerobytes::some_in_bytes(part, 3, 32);
     }
     if order == 5 {
-        return whole::some32(part, 8);
+        return packed_zerowords::some32(part, 8);
     }
-    whole::some64(part, 4)
+    packed_zerowords::some64(part, 4)
 }

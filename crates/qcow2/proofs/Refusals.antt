@@ -61,7 +61,7 @@ module _ (s : List ℕ) (k : ℕ) (e : opened s ≡ Turned k) where
   unfolding scratchLeft
   scratch-refused scratch = rw (refused-is s k e .0) (unless-refused k (λ n. scratch) _ (refused-is s k e .1))
 
-  judged-refused : (p : Plan) → judged s p ≡ refused k
+  pub judged-refused : (p : Plan) → judged s p ≡ refused k
   unfolding judged
   judged-refused p = rw (refused-is s k e .0) (unless-refused k refused (clearing s p) (refused-is s k e .1))
 

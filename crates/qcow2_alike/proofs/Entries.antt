@@ -16,8 +16,9 @@ use Rattle.qcow2_spec.specs.Runs.{moved, sameFound}
 use Rattle.qcow2_spec.specs.declared.Found.{Found}
 use Rattle.qcow2_spec.specs.declared.Found.the-variants.{Host, Zeros, Absent}
 use Rattle.qcow2_spec.proofs.Runs.{same-self, same-is}
-use Rattle.qcow2_entry.specs.Plain.{bare, plain, marked, entryFound}
-use Rattle.qcow2_entry.proofs.Marked.{found-plain, found-other, found-empty, found-filled, found-marked, found-unmarked}
+use Rattle.qcow2_plain.specs.Plain.{bare, plain, marked}
+use Rattle.qcow2_found.specs.Entry.{entryFound}
+use Rattle.qcow2_found.proofs.Marked.{found-plain, found-other, found-empty, found-filled, found-marked, found-unmarked}
 use Rattle.qcow2_alike.specs.Alike.{entryGoes, entriesEnd}
 
 -- ---- the search for the end

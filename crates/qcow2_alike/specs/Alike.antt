@@ -9,7 +9,7 @@ use Rattle.endian.specs.Big.{be64}
 use Rattle.qcow2_spec.specs.Header.{mostBits, mostLength}
 use Rattle.qcow2_spec.specs.Runs.{moved, sameFound}
 use Rattle.qcow2_spec.specs.declared.Found.{Found}
-use Rattle.qcow2_entry.specs.Plain.{entryFound}
+use Rattle.qcow2_found.specs.Entry.{entryFound}
 
 -- entries of an L2 table l, of an image of n bytes
 pub record Entries (bits n from end : ℕ) (l : List ℕ) : Type 0 where

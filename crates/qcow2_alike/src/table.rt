@@ -17,10 +17,10 @@ fn host_end(table: &[u8], from: usize, end: usize, h: u64, n: u64, bits: u32) ->
     let mut k = from;
     while k < end {
         let e = endian::load64(table, 8 * k);
-        if qcow2_entry::twice(e) != want {
+        if qcow2_plain::twice(e) != want {
             return k;
         }
-        if qcow2_entry::is_plain(e, n, bits) {
+        if qcow2_plain::is_plain(e, n, bits) {
             want += step;
             k += 1;
         } else {
@@ -52,7 +52,7 @@ fn marked_end(table: &[u8], from: usize, end: usize, version: u32, n: u64, bits:
 {
     let mut k = from;
     while k < end {
-        if qcow2_entry::is_marked(endian::load64(table, 8 * k), version, n, bits) {
+        if qcow2_plain::is_marked(endian::load64(table, 8 * k), version, n, bits) {
             k += 1;
         } else {
             return k;
@@ -77,7 +77,7 @@ fn same_end(
     let mut k = from;
     while k < end {
         let e = endian::load64(table, 8 * k);
-        if crate::same::same(qcow2_entry::found(e, 0, version, n, bits), f) {
+        if crate::same::same(qcow2_found::found(e, 0, version, n, bits), f) {
             k += 1;
         } else {
             return k;

@@ -6,19 +6,30 @@ use mathlib.Core.Bool.{true, false, true≢false}
 use mathlib.Core.List.{List}
 use native.Mathlib.Nat.{sub-zero}
 use native.Mathlib.Omega.{arith}
-use Rattle.qcow2_spec.specs.Header.{mostSnapshots, roots, rootSize}
+use lib.ListN.{length}
+use Rattle.qcow2_spec.specs.Header.{mostSnapshots, roots, rootSize, version, clusterSize}
+use Rattle.qcow2_spec.specs.Entries.{goodL2}
 use Rattle.qcow2_spec.specs.References.{l1Entries}
-use Rattle.qcow2_spec.specs.Check.{l1Verdict, badIn, rootsVerdict}
+use Rattle.qcow2_spec.specs.Check.{l1Verdict, badIn, rootsVerdict, tableGood, entryGood}
 use Rattle.qcow2_spec.specs.Opened.{Opened}
 use Rattle.qcow2_spec.specs.declared.Geometry.{Geometry}
 use Rattle.qcow2_spec.specs.declared.Verdict.{Verdict}
 use Rattle.qcow2_spec.specs.declared.Verdict.the-variants.{Sound, Leaks, BadL1, BadL2, Shared, Short, MarkL1, MarkL2, Refused}
 use Rattle.qcow2_spec.proofs.Else.{orElse, bad-damage, l1-else}
 use Rattle.qcow2_spec.proofs.Facts.{facts, root-count}
-use Rattle.qcow2_marks.specs.Marks.{UnharmedTo, GoodTo}
-use Rattle.qcow2_bad.specs.Known.{BelowTo, Spot, sound}
-use Rattle.qcow2_bad.proofs.Naming.{rows-first, rows-later, rows-none}
-use Rattle.qcow2_bad.proofs.Failing.{unharmed-bad, below-bad}
+use Rattle.qcow2_marks.specs.Marks.{UnharmedTo, GoodTo, unharmed}
+use Rattle.qcow2_fails.specs.Seeks.{BelowTo}
+use Rattle.qcow2_bad.specs.Known.{Spot, sound}
+use Rattle.qcow2_seek.proofs.Naming.{rows-first, rows-later, rows-none}
+
+-- bad entries are what fails by their own rules
+unharmed-bad : (s : List ℕ) (t e : ℕ) → unharmed s (badIn s t) e ≡ entryGood s e
+unfolding unharmed badIn entryGood tableGood
+unharmed-bad s t e = refl
+
+below-bad : (s : List ℕ) (t e : ℕ) → badIn s t .good2 e ≡ goodL2 (version s) (clusterSize s) (length s) e
+unfolding badIn
+below-bad s t e = refl
 
 -- a verdict that is sound, and one that is not
 pub sound-is : (v : Verdict) → sound v ≡ true → v ≡ Sound

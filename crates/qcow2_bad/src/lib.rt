@@ -13,9 +13,6 @@ ghost use Rattle.qcow2_bad.specs.Known.{Spot, Before, sound};
 use qcow2_spec::Geometry;
 use qcow2_spec::Verdict;
 
-mod entries;
-mod searching;
-
 // Whether a verdict finds nothing wrong.
 pub fn is_sound(v: Verdict) -> bool
     ensures { λ r. ⌜ r ≡ sound v ⌝ }
@@ -39,7 +36,7 @@ fn table_bad(image: &[u8], g: Geometry, t: usize, i: usize, j: usize) -> Verdict
     ensures { λ r. ⌜ r ≡ l1Verdict (now (image .entry)) (badIn (now (image .entry)) t) 0 (l1Entries (now (image .entry)) t) Sound ⌝ }
 {
     let root = qcow2_snapshots::root_at(image, g, t);
-    searching::search(image, image, root, i, j, false)
+    qcow2_seek::search(image, image, root, i, j, false)
 }
 
 // The first bad entry of all L1 tables, the active one first. Sound where there is none. What stands before the spot is known to be good.
@@ -71,5 +68,5 @@ pub fn first_mark(image: &[u8], scratch: &[u8], g: Geometry) -> Verdict
     ensures { λ r. ⌜ r ≡ l1Verdict (now (image .entry)) (wrongMarks (now (image .entry)) (twos (now (scratch .entry)) 0 (g .clusters))) 0 (l1Entries (now (image .entry)) 0) Sound ⌝ }
 {
     let from = qcow2_marks::rows_right(image, scratch, g);
-    searching::search(image, scratch, g, from, 0, true)
+    qcow2_seek::search(image, scratch, g, from, 0, true)
 }

@@ -1,15 +1,13 @@
 // The calls once the header is accepted: what the request must be, then the way, then the work.
 ghost use mathlib.Core.Path.{_≡_};
-ghost use Prim.Native.Nat.{suc, _^_, _≤_};
+ghost use Prim.Native.Nat.{suc};
 ghost use lib.ListN.{length};
-ghost use Rattle.choice.specs.Pick.{ceilDiv};
 ghost use Rattle.units.specs.Plan.{Done};
 ghost use Rattle.qcow2_spec.specs.Opened.{Active};
 ghost use Rattle.qcow2_spec.specs.Guest.{readNumber, readInto};
 ghost use Rattle.qcow2_spec.specs.Store.{writePlan, discardPlan};
 ghost use Rattle.qcow2_spec.specs.References.{scratchLeft};
 ghost use Rattle.qcow2_spec.specs.Check.{check as checked, repairPlan};
-ghost use Rattle.qcow2_spec.specs.Header.{mostBits, mostReach};
 use qcow2_spec::Geometry;
 use qcow2_spec::Verdict;
 use units::Outcome;
@@ -31,14 +29,7 @@ pub fn write(image: &mut [u8], g: Geometry, x: u64, src: &[u8], allowance: usize
     ensures { λ r. ⌜ Done (writePlan (now (image .entry)) x (now (src .entry))) allowance (now (image .entry)) r (now (image .exit)) ⌝ }
 {
     let len = src.len() as u64;
-    if g.size < x {
-        return Outcome::Refused(11);
-    }
-    if g.size - x < len {
-        return Outcome::Refused(11);
-    }
-    let o = power::rest(x, g.bits);
-    if power::power(g.bits) - o < len {
+    if qcow2_own::past_write(g, x, len) {
         return Outcome::Refused(11);
     }
     if len == 0 {
@@ -46,15 +37,8 @@ pub fn write(image: &mut [u8], g: Geometry, x: u64, src: &[u8], allowance: usize
     }
     let guest = power::quotient(x, g.bits);
     let way = qcow2_own::own_way(image, g, guest);
+    let o = power::rest(x, g.bits);
     qcow2_write::write_way(image, g, way, guest, src, o as usize, allowance)
-}
-
-// The guest clusters of a disk of size bytes, rounded up.
-fn disk_clusters(size: u64, bits: u32) -> u64
-    requires { ⌜ (bits ≤ mostBits) × (size ≤ mostReach) ⌝ }
-    ensures { λ r. ⌜ r ≡ ceilDiv size (2 ^ bits) ⌝ }
-{
-    power::quotient(size + (power::power(bits) - 1), bits)
 }
 
 pub fn discard(image: &mut [u8], g: Geometry, guest: u64, allowance: usize) -> Outcome
@@ -62,7 +46,7 @@ pub fn discard(image: &mut [u8], g: Geometry, guest: u64, allowance: usize) -> O
     ensures { λ r. ⌜ Done (discardPlan (now (image .entry)) guest) allowance (now (image .entry)) r (now (image .exit)) ⌝ }
 {
     // the product of guest and the cluster size is not formed, since it could wrap
-    if disk_clusters(g.size, g.bits) <= guest {
+    if qcow2_own::disk_clusters(g.size, g.bits) <= guest {
         return Outcome::Refused(11);
     }
     let way = qcow2_own::own_way(image, g, guest);

@@ -1,50 +1,33 @@
 -- What the walk over all L1 tables leaves for the verdict: its figures, entries that are good, and marks that are right.
 -- Assumes nothing.
-use Prim.Native.Nat.{ℕ, _*_, _≤_}
+use Prim.Native.Nat.{ℕ, _≤_}
 use mathlib.Core.Path.{_≡_, sym, ap, _∙_}
 use mathlib.Core.Bool.{Bool, true, not, _&&_}
 use mathlib.Core.List.{List}
 use native.Mathlib.Omega.{arith}
 use borrow.Author.Tests.{eqb-true, ltb-true, eq-eqb}
 use lib.Dec.{ltb, eqb}
-use lib.ListN.{length}
 use Rattle.choice.specs.Pick.{first}
 use Rattle.choice.proofs.Tests.{and-true}
 use Rattle.tally.specs.Tally.{wide}
-use Rattle.tally.specs.States.{twos as twosFrom}
 use Rattle.tally.proofs.Wide.{figures-fit}
-use Rattle.tally.proofs.Counting.{counting-first}
-use Rattle.packed_wide.specs.Twos.{twos, many, figuresIn}
-use Rattle.packed_wide.proofs.Laws.{figures-wide}
+use Rattle.packed_twos.specs.Twos.{figuresIn}
+use Rattle.packed_twos.proofs.Laws.{figures-wide}
 use Rattle.qcow2_spec.specs.Header.{clusters, snapshots, roots}
 use Rattle.qcow2_spec.specs.References.{figuresOf, references}
-use Rattle.qcow2_spec.specs.Check.{sharedAt, short, over}
+use Rattle.qcow2_spec.specs.Check.{sharedAt}
 use Rattle.qcow2_spec.specs.declared.Verdict.the-variants.{Sound}
 use Rattle.qcow2_spec.proofs.Facts.{Facts}
 use Rattle.qcow2_spec.proofs.Marks.{own-marks}
-use Rattle.qcow2_forest.specs.Forest.{Front}
+use Rattle.qcow2_trees.specs.Walks.{Front}
 use Rattle.qcow2_forest.proofs.Fronts.{front-good, front-own}
-use Rattle.qcow2_figures.specs.Known.{Judging}
-use Rattle.qcow2_figures.proofs.Compares.{length-figures}
 use Rattle.qcow2_bad.specs.Known.{Before}
-use Rattle.qcow2_check.specs.Marks.{OwnMarks}
+use Rattle.qcow2_verdict.specs.Marks.{OwnMarks}
 
 -- the figures of a scratch once all is counted
 pub counted-figures : (s f : List ℕ) → f ≡ wide (figuresOf s) → figuresIn f ≡ figuresOf s
 unfolding figuresOf
 counted-figures s f e = ap figuresIn e ∙ figures-wide (figuresOf s) (figures-fit (references s) 0 (clusters s))
-
--- the figures of so many clusters
-pub figures-are : (f : List ℕ) (m : ℕ) → length f ≡ 2 * m → twosFrom f 0 m ≡ figuresIn f
-unfolding twos
-figures-are f m e = let k : m ≡ many f = omega (arith, e) in ap (twosFrom f 0) k
-
-pub length-is : (f : List ℕ) (m : ℕ) → length f ≡ 2 * m → length (figuresIn f) ≡ m
-length-is f m e = omega (arith, length-figures f, e)
-
--- no cluster is judged yet
-pub judging-first : (s f : List ℕ) (m : ℕ) → length f ≡ 2 * m → Judging s (figuresIn f) 0 (record { low = m; over = 0 })
-judging-first s f m e = rw (length-is f m e) (counting-first (short s (figuresIn f)) (over s (figuresIn f)) m)
 
 -- entries that pass are good
 pub front-before : {states : Bool} {s : List ℕ} {root row below : ℕ} → Front states s (roots s) root row below → Before s root row below

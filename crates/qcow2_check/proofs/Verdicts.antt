@@ -4,43 +4,25 @@ use Prim.Native.Nat.{ℕ, suc, _*_}
 use mathlib.Core.Path.{_≡_, refl, sym, ap, _∙_}
 use mathlib.Core.Bool.{Bool, true, false, not, _&&_, _||_, true≢false}
 use mathlib.Core.List.{List, [], _∷_}
-use lib.Dec.{ltb, eqb}
+use lib.Dec.{eqb}
 use lib.ListN.{length, drop}
-use Rattle.choice.specs.Pick.{if_then_else_, all, first, count}
+use Rattle.choice.specs.Pick.{if_then_else_, all}
 use Rattle.endian.specs.Big.{entries}
 use Rattle.endian.proofs.Entries.{be64-drop}
-use Rattle.qcow2_spec.specs.Header.{version, clusterSize, clusters, snapshots, roots, rootSize, rootAt}
+use Rattle.qcow2_spec.specs.Header.{version, clusterSize, snapshots, roots, rootSize, rootAt}
 use Rattle.qcow2_spec.specs.Entries.{place, goodL1, goodL2}
 use Rattle.qcow2_spec.specs.References.{l1Entries, l2Entries, figuresOf}
-use Rattle.qcow2_spec.specs.Check.{tableGood, entryGood, l2Verdict, entryVerdict, l1Verdict, badIn, rootsVerdict, wrongMarks, sharedAt, short, over, countsVerdict, verdict}
+use Rattle.qcow2_spec.specs.Check.{tableGood, entryGood, l2Verdict, entryVerdict, l1Verdict, badIn, rootsVerdict, countsVerdict, verdict}
 use Rattle.qcow2_spec.specs.declared.Verdict.{Verdict}
-use Rattle.qcow2_spec.specs.declared.Verdict.the-variants.{Sound, Leaks, BadL1, BadL2, Shared, Short}
-use Rattle.qcow2_spec.proofs.Else.{orElse, mark-damage, l1-else, roots-else}
+use Rattle.qcow2_spec.specs.declared.Verdict.the-variants.{Sound, BadL1, BadL2}
+use Rattle.qcow2_spec.proofs.Else.{orElse, roots-else}
 use Rattle.qcow2_spec.proofs.Facts.{all-entries}
 use Rattle.qcow2_refs.specs.Walks.{rowAt}
 use Rattle.qcow2_bad.specs.Known.{sound}
 use Rattle.qcow2_bad.proofs.Tables.{sound-is, sound-else}
-use Rattle.qcow2_check.specs.Marks.{AllGood}
+use Rattle.qcow2_verdict.specs.Marks.{AllGood}
 
--- the verdict on the counts, by what the code has found
-pub counts-tell : (s fs : List ℕ) (N a low leaks : ℕ) → length fs ≡ N → N ≡ clusters s → a ≡ first (sharedAt s) 0 (clusters s) → low ≡ first (short s fs) 0 (length fs) → leaks ≡ count (over s fs) 0 (length fs)
-    → (if ltb a N then Shared a else if ltb low N then Short low else l1Verdict s (wrongMarks s fs) 0 (l1Entries s 0) (if ltb 0 leaks then Leaks leaks else Sound)) ≡ countsVerdict s fs
-unfolding countsVerdict
-counts-tell s fs N a low leaks hL hN ha hl hk = let e = hL ∙ hN in rw (hN, ha, hl, hk, e)
-
--- ---- a search is made with `Sound` first
-module _ (s fs : List ℕ) (v next : Verdict) (e : v ≡ l1Verdict s (wrongMarks s fs) 0 (l1Entries s 0) Sound) where
-  marks-else : l1Verdict s (wrongMarks s fs) 0 (l1Entries s 0) next ≡ orElse v next
-  marks-else = l1-else s (wrongMarks s fs) (mark-damage s fs) 0 (l1Entries s 0) next ∙ ap (λ (u : Verdict). orElse u next) (sym e)
-
-  -- a wrong mark is found
-  pub marks-wrong : sound v ≡ false → v ≡ l1Verdict s (wrongMarks s fs) 0 (l1Entries s 0) next
-  marks-wrong h = sym (marks-else ∙ sound-else v next h)
-
-  -- none is
-  pub marks-right : sound v ≡ true → next ≡ l1Verdict s (wrongMarks s fs) 0 (l1Entries s 0) next
-  marks-right h = sym (marks-else ∙ ap (λ (u : Verdict). orElse u next) (sound-is v h))
-
+-- a search is made with `Sound` first
 module _ (s : List ℕ) (v : Verdict) (e : v ≡ rootsVerdict s 0 (roots s) Sound) where
   verdict-else : verdict s ≡ orElse v (countsVerdict s (figuresOf s))
   unfolding verdict

@@ -10,8 +10,6 @@ ghost use Rattle.qcow2_spec.specs.Opened.{Active};
 use qcow2_spec::Geometry;
 use qcow2_spec::Verdict;
 
-mod counts;
-
 // Whether the walk has shown that every place has bit 63 beside it: it looks at that where there are no snapshots, and went through all.
 fn all_own(snapshots: usize, root: usize) -> bool
     ensures { λ r. ⌜ r ≡ (eqb snapshots 0 && ltb 0 root) ⌝ }
@@ -34,5 +32,5 @@ pub fn check(image: &[u8], scratch: &mut [u8], g: Geometry) -> Verdict
         return v;
     }
     let own = all_own(g.snapshots, w.root);
-    counts::judge_counts(image, &scratch[..m], g, w.shared, own)
+    qcow2_verdict::judge_counts(image, &scratch[..m], g, w.shared, own)
 }

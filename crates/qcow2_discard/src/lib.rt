@@ -59,9 +59,9 @@ fn store(image: &mut [u8], g: Geometry, freed: Freed, allowance: usize) -> Outco
     requires { ⌜ Opened g (now image) × FreedIn (length (now image)) freed ⌝ }
     ensures { λ r. ⌜ Done (planned (clearUnits (now (image .entry)) ++ freedUnits freed)) allowance (now (image .entry)) r (now (image .exit)) ⌝ }
 {
-    let left = qcow2_put::clearing::clear(image, g, allowance);
+    let left = qcow2_clear::clear(image, g, allowance);
     let r = put_freed(image, freed, left);
-    qcow2_put::clearing::whole_end(r, left, allowance)
+    qcow2_clear::whole_end(r, left, allowance)
 }
 
 // A discard, with the way to the guest cluster: the field is cleared only where there is something to store.

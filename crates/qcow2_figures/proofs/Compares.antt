@@ -15,8 +15,8 @@ use Rattle.choice.proofs.Found.{count-zero}
 use Rattle.endian.specs.Big.{be16}
 use Rattle.widths.proofs.Cells.{number-part, inside-first}
 use Rattle.packed.specs.Packed.{packed, unlikeAt, underAt}
-use Rattle.packed_wide.specs.Twos.{many, figuresIn}
-use Rattle.packed_wide.proofs.Laws.{length-twos, getD-twos}
+use Rattle.packed_twos.specs.Twos.{many, figuresIn}
+use Rattle.packed_twos.proofs.Laws.{length-twos, getD-twos}
 use Rattle.tally.specs.declared.Counted.{Counted}
 use Rattle.tally.specs.Tally.{counted}
 use Rattle.tally.proofs.Counting.{counting-next, counting-part}

@@ -20,7 +20,7 @@ fn visit_place(scratch: &mut [u8], p: u64, bits: u32, kind: u16)
     if p == 0 {
         return;
     }
-    tally::visits::visit(scratch, power::quotient(p, bits) as usize, kind);
+    visits::visit(scratch, power::quotient(p, bits) as usize, kind);
 }
 
 // Visits the refcount blocks.
@@ -42,7 +42,7 @@ pub fn visit_fixed(image: &[u8], scratch: &mut [u8], g: Geometry, kind: u16)
     ensures { λ _. ⌜ now (scratch .exit) ≡ visitAll kind (fixedRefs (now (image .entry))) (replicate (2 * g .clusters) 0) ⌝ }
 {
     tally::clear(scratch);
-    tally::visits::visit(scratch, 0, kind);
+    visits::visit(scratch, 0, kind);
     spans::visit_clusters(scratch, g.tableat, g.tableclusters, g.bits, kind);
     tables::visit_roots(image, scratch, g, kind);
     tables::visit_snapshots(image, scratch, g, kind);

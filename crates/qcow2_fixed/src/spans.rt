@@ -13,7 +13,7 @@ pub fn visit_clusters(scratch: &mut [u8], at: usize, span: usize, bits: u32, kin
     ensures { λ _. ⌜ now (scratch .exit) ≡ visitAll kind (run (at / 2 ^ bits) span) (now (scratch .entry)) ⌝ }
 {
     let k = power::quotient(at as u64, bits) as usize;
-    tally::visits::visit_run(scratch, k, span, kind);
+    visits::visit_run(scratch, k, span, kind);
 }
 
 // The clusters that a number of bytes needs.

@@ -1,8 +1,8 @@
 -- What the walks over all L1 tables leave in a scratch.
 -- Assumes nothing.
-use Prim.Native.Nat.{ℕ, zero, suc, _+_, _-_, _*_, _/_, _≤_, _<_}
+use Prim.Native.Nat.{ℕ, zero, suc, _*_, _/_, _≤_}
 use mathlib.Core.Path.{_≡_, refl, sym, ap, _∙_}
-use mathlib.Core.Bool.{Bool, true, false}
+use mathlib.Core.Bool.{true, false}
 use mathlib.Core.List.{List, _++_}
 use native.Mathlib.Omega.{arith}
 use lib.Dec.{ltb}
@@ -18,21 +18,8 @@ use Rattle.qcow2_spec.specs.References.{l1Entries, l1Refs, fixedRefs, rootRefs,
 use Rattle.qcow2_spec.specs.Check.{sharedAt}
 use Rattle.qcow2_spec.proofs.Facts.{Facts}
 use Rattle.qcow2_spec.proofs.Walked.{states-shared, states-figures, counted-shared}
-use Rattle.qcow2_forest.specs.Forest.{tableBy, dataBy, rootsVisited, statesOf}
-
-module _ (states : Bool) (s : List ℕ) where
-  -- one of the n - t turns
-  pub roots-turn : (n t : ℕ) (z : List ℕ) → t < n
-      → rootsVisited states s t (n - t) z ≡ rootsVisited states s (t + 1) (n - (t + 1)) (treeVisited (l1Refs s) (tableBy states t) (dataBy states t) (l1Entries s t) z)
-  unfolding rootsVisited
-  roots-turn n t z h =
-      let e : n - t ≡ suc (n - (t + 1)) = omega arith in
-      let g : suc t ≡ t + 1 = omega arith in
-      ap (λ (m : ℕ). rootsVisited states s t m z) e ∙ ap (λ (u : ℕ). rootsVisited states s u (n - (t + 1)) (treeVisited (l1Refs s) (tableBy states t) (dataBy states t) (l1Entries s t) z)) g
-
-  pub roots-none : (n t : ℕ) (z : List ℕ) → n ≤ t → rootsVisited states s t (n - t) z ≡ z
-  unfolding rootsVisited
-  roots-none n t z h = let e : n - t ≡ 0 = omega arith in rw e
+use Rattle.qcow2_trees.specs.Walks.{rootsVisited}
+use Rattle.qcow2_forest.specs.Forest.{statesOf}
 
 module _ (s : List ℕ) where
   -- counting alone

@@ -1,54 +1,21 @@
--- All L1 tables, walked one after another: what is visited, and how far their entries pass.
+-- All L1 tables with the fixed places: what a walk leaves, and what it says of the entries.
 -- Assumes nothing.
-use Prim.Native.Nat.{ℕ, zero, suc, _+_, _*_, _≤_, _<_}
+use Prim.Native.Nat.{ℕ, _*_, _<_}
 use mathlib.Core.Path.{_≡_}
-use mathlib.Core.Bool.{Bool, true, false}
+use mathlib.Core.Bool.{true}
 use mathlib.Core.List.{List}
-use lib.Dec.{ltb}
 use lib.ListN.{length, replicate}
-use Rattle.choice.specs.Pick.{if_then_else_}
-use Rattle.tally.specs.States.{fixedKind, tableKind, dataKind, visitAll, treeVisited}
+use Rattle.tally.specs.States.{fixedKind, visitAll}
 use Rattle.qcow2_spec.specs.Header.{version, clusterSize, clusters, roots, rootSize}
 use Rattle.qcow2_spec.specs.Entries.{goodL2}
-use Rattle.qcow2_spec.specs.References.{l1Entries, l1Refs, fixedRefs}
+use Rattle.qcow2_spec.specs.References.{fixedRefs}
 use Rattle.qcow2_spec.specs.Check.{entryGood}
-use Rattle.qcow2_refs.specs.Walks.{rowAt, belowAt, PassTo, ClearTo}
-use Rattle.qcow2_forest.specs.declared.Spot.{Spot}
-
--- the kinds of a walk over L1 table t: by its L2 tables and by data, or counting alone
-abbrev pub tableBy : (states : Bool) → ℕ → ℕ
-tableBy true t = tableKind t
-tableBy false t = 0
-
-abbrev pub dataBy : (states : Bool) → ℕ → ℕ
-dataBy true t = dataKind t
-dataBy false t = 0
-
--- a scratch once k L1 tables of s from t on are walked
-unfoldable pub rootsVisited : (states : Bool) → List ℕ → (t k : ℕ) → List ℕ → List ℕ
-rootsVisited states s t zero z = z
-rootsVisited states s t (suc k) z =
-    rootsVisited states s (suc t) k (treeVisited (l1Refs s) (tableBy states t) (dataBy states t) (l1Entries s t) z)
+use Rattle.qcow2_refs.specs.Walks.{rowAt, belowAt}
+use Rattle.qcow2_trees.specs.Walks.{rootsVisited}
 
 -- a cleared scratch once the fixed places and all L1 tables are walked with states
 unfoldable pub statesOf : List ℕ → List ℕ
 statesOf s = rootsVisited true s 0 (roots s) (visitAll fixedKind (fixedRefs s) (replicate (2 * clusters s) 0))
-
--- how far all passes, once L1 table t is walked too, of whose entries `good` at the front pass with all below them, of `rows`
-unfoldable pub onward : Spot → (t good below rows : ℕ) → Spot
-onward f t good below rows =
-    if ltb (f .root) t then f else
-    if ltb good rows then record { root = t; row = good; below = below } else
-    record { root = t + 1; row = 0; below = 0 }
-
--- of the first n L1 tables those before `root` pass with all below them; if `root` is one of them, so do its entries before `row`, and the
--- first `below` entries of the table below this one pass
-pub record Front (states : Bool) (s : List ℕ) (n root row below : ℕ) : Type 0 where
-  pub few : root ≤ n
-  pub whole : (t : ℕ) → t < root → PassTo (dataBy states t) s t (rootSize s t)
-  pub inside : root < n → row < rootSize s root
-  pub rows : PassTo (dataBy states root) s root row
-  pub clear : ClearTo (dataBy states root) s root row below
 
 -- every entry before a spot is good
 pub record Ahead (s : List ℕ) (root row below : ℕ) : Type 0 where

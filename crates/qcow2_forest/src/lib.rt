@@ -10,17 +10,10 @@ ghost use Rattle.qcow2_spec.specs.Header.{clusters as clustersOf, snapshots as 
 ghost use Rattle.qcow2_spec.specs.References.{figuresOf};
 ghost use Rattle.qcow2_spec.specs.Check.{sharedAt};
 ghost use Rattle.qcow2_spec.specs.Opened.{Active};
-ghost use Rattle.qcow2_forest.specs.Forest.{Front, statesOf};
+ghost use Rattle.qcow2_trees.specs.Walks.{Front};
+ghost use Rattle.qcow2_forest.specs.Forest.{statesOf};
 use qcow2_spec::Geometry;
-
-mod trees;
-
-// Where a walk over the L1 tables stands: a table, an entry of it, and how many entries below that.
-pub struct Spot {
-    pub root: usize,
-    pub row: usize,
-    pub below: usize,
-}
+use qcow2_trees::Spot;
 
 // The lowest shared cluster, or the number of clusters, and how far the entries pass.
 pub struct Tallied {
@@ -36,7 +29,7 @@ fn count_alone(image: &[u8], scratch: &mut [u8], g: Geometry) -> Spot
     ensures { λ r. ⌜ Front false (now (image .entry)) (roots (now (image .entry))) (r .root) (r .row) (r .below) × (now (scratch .exit) ≡ wide (figuresOf (now (image .entry)))) ⌝ }
 {
     qcow2_fixed::visit_fixed(image, scratch, g, 0);
-    trees::walk_roots(image, scratch, g, false)
+    qcow2_trees::walk_roots(image, scratch, g, false)
 }
 
 // Without snapshots a cluster is shared where it has two references or more.
@@ -46,7 +39,7 @@ fn count_single(image: &[u8], scratch: &mut [u8], g: Geometry) -> Tallied
 {
     let f = count_alone(image, scratch, g);
     Tallied {
-        shared: tally::scans::lowest_double(scratch),
+        shared: scans::lowest_double(scratch),
         root: f.root,
         row: f.row,
         below: f.below,
@@ -59,7 +52,7 @@ fn walk_states(image: &[u8], scratch: &mut [u8], g: Geometry) -> Spot
     ensures { λ r. ⌜ Front true (now (image .entry)) (roots (now (image .entry))) (r .root) (r .row) (r .below) × (now (scratch .exit) ≡ statesOf (now (image .entry))) ⌝ }
 {
     qcow2_fixed::visit_fixed(image, scratch, g, 1);
-    trees::walk_roots(image, scratch, g, true)
+    qcow2_trees::walk_roots(image, scratch, g, true)
 }
 
 // The references of each cluster after such a walk, which has them where no cluster is shared.
@@ -71,7 +64,7 @@ fn settle(image: &[u8], scratch: &mut [u8], g: Geometry, shared: usize)
         count_alone(image, scratch, g);
         return;
     }
-    tally::visits::unpack(scratch);
+    visits::unpack(scratch);
 }
 
 // With snapshots a cluster may have references from several L1 tables.
@@ -80,7 +73,7 @@ fn count_states(image: &[u8], scratch: &mut [u8], g: Geometry) -> Tallied
     ensures { λ r. ⌜ Front true (now (image .entry)) (roots (now (image .entry))) (r .root) (r .row) (r .below) × ((r .shared ≡ first (sharedAt (now (image .entry))) 0 (clustersOf (now (image .entry)))) × (now (scratch .exit) ≡ wide (figuresOf (now (image .entry))))) ⌝ }
 {
     let f = walk_states(image, scratch, g);
-    let shared = tally::scans::first_bad(scratch);
+    let shared = scans::first_bad(scratch);
     settle(image, scratch, g, shared);
     Tallied {
         shared,

@@ -14,7 +14,7 @@ use Rattle.qcow2_spec.specs.Header.{mostLength}
 use Rattle.qcow2_spec.specs.Entries.{place, goodL2}
 use Rattle.qcow2_spec.specs.Good.{MaybeMarked}
 use Rattle.qcow2_spec.proofs.Good.{good-entries}
-use Rattle.qcow2_entry.proofs.Plain.{low-bits}
+use Rattle.qcow2_plain.proofs.Plain.{low-bits}
 
 -- 1 where bit 0 may be set
 abbrev pub markOf : ℕ → ℕ

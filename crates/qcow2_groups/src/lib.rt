@@ -31,7 +31,7 @@ fn walk_own(scratch: &mut [u8], e: u64, version: u32, bits: u32, n: u64) -> bool
     if power::rest(x, bits) > mark {
         return false;
     }
-    tally::visits::visit(scratch, power::quotient(x, bits) as usize, 0);
+    visits::count_up(scratch, power::quotient(x, bits) as usize);
     true
 }
 
@@ -49,7 +49,7 @@ fn walk_role(scratch: &mut [u8], e: u64, version: u32, bits: u32, n: u64, kind: 
     if power::rest(x, bits) > mark {
         return false;
     }
-    tally::visits::visit(scratch, power::quotient(x, bits) as usize, kind);
+    visits::visit(scratch, power::quotient(x, bits) as usize, kind);
     true
 }
 
@@ -74,7 +74,7 @@ pub fn walk_any(scratch: &mut [u8], e: u64, version: u32, bits: u32, n: u64, kin
     }
     if qcow2_entry::good_l2(e, version, n, bits) {
         let p = qcow2_entry::place_of(e);
-        tally::visits::visit(scratch, power::quotient(p, bits) as usize, kind);
+        visits::visit(scratch, power::quotient(p, bits) as usize, kind);
     }
     false
 }
@@ -105,7 +105,7 @@ fn walk_each(
     j
 }
 
-// The same. Zeros are passed over all at once.
+// The same. Zeros are passed over all at once. A walk that counts alone has a copy of the loop to itself, in which the kind is not looked at.
 fn walk_group(
     table: &[u8],
     scratch: &mut [u8],
@@ -121,6 +121,9 @@ fn walk_group(
     let at = 8 * i;
     if blank::all_zeros(&table[at..at + 512]) {
         return i + 64;
+    }
+    if kind == 0 {
+        return walk_each(table, scratch, i, version, bits, n, 0);
     }
     walk_each(table, scratch, i, version, bits, n, kind)
 }

@@ -21,8 +21,9 @@ use Rattle.qcow2_spec.specs.declared.Found.the-variants.{Host, Zeros, Absent, R
 use Rattle.qcow2_spec.proofs.Facts.{Facts, facts, c-pos, e-pos}
 use Rattle.qcow2_spec.proofs.Refers.{placed1}
 use Rattle.qcow2_spec.proofs.Numbers.{part8}
-use Rattle.qcow2_entry.specs.Plain.{bare, plain, entryFound}
-use Rattle.qcow2_entry.proofs.Marked.{entry-way, found-plain, found-other}
+use Rattle.qcow2_plain.specs.Plain.{bare, plain}
+use Rattle.qcow2_found.specs.Entry.{entryFound}
+use Rattle.qcow2_found.proofs.Marked.{entry-way, found-plain, found-other}
 use Rattle.qcow2_guest.specs.Rows.{Below, Lent, tableOf, rowLeft}
 use Rattle.qcow2_guest.proofs.Numbers.{div-mono}
 use Rattle.qcow2_guest.proofs.Pieces.{same-cluster, written}

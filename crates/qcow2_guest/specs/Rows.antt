@@ -9,7 +9,7 @@ use Rattle.endian.specs.Big.{be64}
 use Rattle.qcow2_spec.specs.Header.{version, clusterSize, perTable}
 use Rattle.qcow2_spec.specs.Entries.{place, goodL1}
 use Rattle.qcow2_spec.specs.Guest.{l1Entry, l2Way, way, located}
-use Rattle.qcow2_entry.specs.Plain.{entryFound}
+use Rattle.qcow2_found.specs.Entry.{entryFound}
 
 -- the ways to the n bytes of the disk from x on all lead through the L2 table at t
 pub record Below (s : List ℕ) (r t x n : ℕ) : Type 0 where

@@ -46,7 +46,7 @@ fn l2_way(image: &[u8], g: Geometry, t: usize, guest: u64) -> Way
     let n = image.len() as u64;
     let c = power::power(g.bits) as usize;
     let i = power::rest(guest, g.bits - 3) as usize;
-    qcow2_entry::way_in(&image[t..t + c], i, t, g.version, n, g.bits)
+    qcow2_found::way_in(&image[t..t + c], i, t, g.version, n, g.bits)
 }
 
 // The way to a guest cluster.
@@ -75,7 +75,7 @@ pub fn locate(image: &[u8], g: Geometry, x: u64) -> Found
     match w {
         Way::Bad(k) => Found::Refused(k),
         Way::NoTable => Found::Absent,
-        Way::Slot(_, e) => qcow2_entry::gives(e, o),
+        Way::Slot(_, e) => qcow2_found::gives(e, o),
     }
 }
 

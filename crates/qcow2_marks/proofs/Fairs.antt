@@ -15,7 +15,7 @@ use Rattle.choice.proofs.Tests.{true-not-false, and-true, or-true}
 use Rattle.endian.specs.Big.{be16}
 use Rattle.qcow2_spec.specs.Entries.{place, alone, goodPlace, goodL1, goodL2, compressed, zeroMark}
 use Rattle.qcow2_spec.proofs.Places.{place-room, l1-place, l2-place, cluster-below}
-use Rattle.qcow2_entry.specs.Plain.{bare}
+use Rattle.qcow2_plain.specs.Plain.{bare}
 use Rattle.qcow2_marks.specs.Marks.{right, Fair}
 
 -- a good place is a whole number of clusters

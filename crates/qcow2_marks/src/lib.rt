@@ -26,7 +26,7 @@ pub fn mark_right(e: u64, scratch: &[u8], bits: u32) -> bool
     requires { ⌜ ((9 ≤ bits) × (bits ≤ mostBits)) × Fair (2 ^ bits) (length (now scratch) / 2) e ⌝ }
     ensures { λ r. ⌜ r ≡ right (2 ^ bits) (now (scratch .entry)) e ⌝ }
 {
-    let c = power::quotient(qcow2_entry::twice(e), bits + 1) as usize;
+    let c = power::quotient(qcow2_plain::twice(e), bits + 1) as usize;
     if c == 0 {
         return true;
     }

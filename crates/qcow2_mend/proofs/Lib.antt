@@ -1,2 +1,1 @@
-pub mod Fixes
 pub mod Wholes

@@ -18,12 +18,12 @@ use Rattle.widths.proofs.Whole.{bytes2, stored-whole}
 use Rattle.widths.proofs.Cells.{number-16, number-part, inside-first}
 use Rattle.packed.specs.Packed.{packed, unlikeAt}
 use Rattle.packed.proofs.Laws.{count-next}
-use Rattle.packed_wide.specs.Twos.{many, figuresIn}
-use Rattle.packed_wide.proofs.Laws.{getD-twos}
+use Rattle.packed_twos.specs.Twos.{many, figuresIn}
+use Rattle.packed_twos.proofs.Laws.{getD-twos}
 use Rattle.units.specs.Units.{UnitStore, count, applyAll}
 use Rattle.units.proofs.Laws.{count-some, applyAll-append}
 use Rattle.qcow2_counts.specs.Blocks.{Row}
-use Rattle.qcow2_mend.specs.Fixed.{fix, fixes}
+use Rattle.qcow2_setcount.specs.Fixed.{fix, fixes}
 use Rattle.qcow2_counts.proofs.Sizes.{row-part}
 
 -- two bytes that are stored where they stand

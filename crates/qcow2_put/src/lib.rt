@@ -1,3 +1,2 @@
-// Lists of units stored under an allowance: the unit that clears the autoclear field, new clusters and their entries.
-pub mod clearing;
+// Lists of units stored under an allowance: new clusters and their entries.
 pub mod linking;

@@ -52,7 +52,7 @@ fn allot(
     ensures { λ r. ⌜ (r ≡ left - (1 + c)) × (now (image .exit) ≡ applyAll (take left (count (2 ^ order) «count_at» 1 ∷ fill at (cluster c o (now (src .entry))))) (now (image .entry))) ⌝ }
 {
     let rest = units::store_count(image, order, count_at, 1, left);
-    units::store_cluster(image, at, c, src, o, rest)
+    fills::store_cluster(image, at, c, src, o, rest)
 }
 
 // A cluster is allotted and filled with zeros.
@@ -104,7 +104,7 @@ pub fn put_marked(
     requires { ⌜ Filled (length (now image)) «entry_at» at c o (now src) ⌝ }
     ensures { λ r. ⌜ Done (planned (fill at (cluster c o (now (src .entry))) ++ entry «entry_at» (newEntry at) ∷ [])) allowance (now (image .entry)) r (now (image .exit)) ⌝ }
 {
-    let rest = units::store_cluster(image, at, c, src, o, allowance);
+    let rest = fills::store_cluster(image, at, c, src, o, allowance);
     units::store_entry(image, entry_at, at as u64 + 9223372036854775808, rest);
     units::end_of(c + 1, allowance)
 }
@@ -114,7 +114,7 @@ pub fn put_bytes(image: &mut [u8], at: usize, src: &[u8], allowance: usize) -> O
     requires { ⌜ at + length (now src) ≤ length (now image) ⌝ }
     ensures { λ r. ⌜ Done (planned (fill at (now (src .entry)))) allowance (now (image .entry)) r (now (image .exit)) ⌝ }
 {
-    units::store_bytes(image, at, src, allowance);
+    fills::store_bytes(image, at, src, allowance);
     units::end_of(src.len(), allowance)
 }
 

@@ -18,8 +18,8 @@ use Rattle.qcow2_spec.specs.declared.Geometry.{Geometry}
 use Rattle.qcow2_spec.specs.declared.Way.{Way}
 use Rattle.qcow2_spec.specs.declared.Way.the-variants.{NoTable}
 use Rattle.qcow2_spec.proofs.Facts.{facts, c-in}
-use Rattle.qcow2_entry.specs.Plain.{plain}
-use Rattle.qcow2_entry.proofs.Plain.{plain-way}
+use Rattle.qcow2_plain.specs.Plain.{plain}
+use Rattle.qcow2_plain.proofs.Plain.{plain-way}
 use Rattle.qcow2_range.specs.Slots.{slot, numbers}
 use Rattle.qcow2_guest.proofs.Pieces.{same-cluster, same-rest}
 use Rattle.qcow2_guest.proofs.Steps.{table-entry, way-bad, way-none, way-some}

@@ -29,7 +29,7 @@ fn is_easy(e: u64, n: u64, bits: u32) -> bool
     if e == 0 {
         return true;
     }
-    qcow2_entry::is_plain(e, n, bits)
+    qcow2_plain::is_plain(e, n, bits)
 }
 
 // The first of the entries from an index to an end that is not easy, or the end. Apart from the loop over the others, so that an entry
@@ -64,7 +64,7 @@ fn table_number(
 {
     let mut i = easy_end(table, from, end, n, bits);
     while i < end {
-        let bad = number(qcow2_entry::way_in(table, i, at, version, n, bits));
+        let bad = number(qcow2_found::way_in(table, i, at, version, n, bits));
         if bad != 0 {
             return bad;
         }

@@ -6,7 +6,7 @@ ghost use lib.ListN.{length, take, drop};
 ghost use Rattle.qcow2_spec.specs.Header.{mostBits, mostLength, perTable, rootSize};
 ghost use Rattle.qcow2_spec.specs.Guest.{reach, guestBytes, readNumber, readInto, inPlace};
 ghost use Rattle.qcow2_spec.specs.Opened.{Opened, Active};
-ghost use Rattle.qcow2_entry.specs.Plain.{bare};
+ghost use Rattle.qcow2_plain.specs.Plain.{bare};
 ghost use Rattle.qcow2_guest.specs.Rows.{Lent, tableOf, rowLeft};
 use qcow2_spec::Found;
 use qcow2_spec::Geometry;
@@ -16,7 +16,7 @@ fn host_at(e: u64, x: u64, bits: u32) -> usize
     requires { ⌜ (bits ≤ mostBits) × ((bare e ≤ mostLength) × (bare e % 2 ^ bits ≡ 0)) ⌝ }
     ensures { λ r. ⌜ r ≡ bare e + x % 2 ^ bits ⌝ }
 {
-    let c = power::quotient(qcow2_entry::twice(e), bits + 1);
+    let c = power::quotient(qcow2_plain::twice(e), bits + 1);
     (c * power::power(bits) + power::rest(x, bits)) as usize
 }
 
@@ -29,7 +29,7 @@ fn read_piece(image: &[u8], table: &[u8], g: Geometry, x: u64, part: &mut [u8])
     let n = part.len();
     let i = power::rest(power::quotient(x, g.bits), g.bits - 3) as usize;
     let e = endian::load64(table, 8 * i);
-    if qcow2_entry::is_plain(e, image.len() as u64, g.bits) {
+    if qcow2_plain::is_plain(e, image.len() as u64, g.bits) {
         let at = host_at(e, x, g.bits);
         copy::bytes(part, 0, &image[at..at + n], n);
     } else {

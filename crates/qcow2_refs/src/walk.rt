@@ -57,7 +57,7 @@ fn walk_below(image: &[u8], scratch: &mut [u8], p: u64, g: Geometry, table: u16,
 {
     let at = p as usize;
     let c = power::power(g.bits) as usize;
-    tally::visits::visit(scratch, power::quotient(p, g.bits) as usize, table);
+    visits::visit(scratch, power::quotient(p, g.bits) as usize, table);
     walk_table(
         &image[at..at + c],
         scratch,

@@ -2,3 +2,5 @@ pub mod Midway
 pub mod Alone
 pub mod Apart
 pub mod Repairs
+pub mod Mends
+pub mod Rooms

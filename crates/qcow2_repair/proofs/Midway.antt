@@ -21,17 +21,17 @@ use Rattle.units.proofs.Steps.{two, stored}
 use Rattle.units.proofs.Elsewhere.{Off, none, off-append, untouched, Beside, lone, beside-append, unmoved}
 use Rattle.tally.proofs.Laws.{length-figures, figures-small}
 use Rattle.tally.proofs.Wide.{Fit}
-use Rattle.packed_wide.specs.Twos.{many, figuresIn}
-use Rattle.packed_wide.proofs.Laws.{length-wide, figures-front}
+use Rattle.packed_twos.specs.Twos.{many, figuresIn}
+use Rattle.packed_twos.proofs.Laws.{length-wide, figures-front}
 use Rattle.qcow2_spec.specs.Header.{clusters}
 use Rattle.qcow2_spec.specs.References.{references, mostFigure, figuresOf}
 use Rattle.qcow2_spec.specs.declared.Geometry.{Geometry}
 use Rattle.qcow2_counts.specs.Blocks.{Reach, perOf, countPlace, tablePlace}
 use Rattle.qcow2_repair.specs.Leaks.{Figured, Laid, mendUnits}
-use Rattle.qcow2_mend.specs.Fixed.{fixes}
+use Rattle.qcow2_setcount.specs.Fixed.{fixes}
 use Rattle.qcow2_counts.proofs.Sizes.{count-inside}
 use Rattle.qcow2_counts.proofs.Blocks.{run-block, run-index}
-use Rattle.qcow2_mend.proofs.Fixes.{off-fix, beside-fix, fixes-most, fixes-same}
+use Rattle.qcow2_setcount.proofs.Fixes.{off-fix, beside-fix, fixes-most, fixes-same}
 
 -- ---- the places of the counts
 module _ (g : Geometry) (s : List ℕ) where
@@ -139,7 +139,7 @@ module _ (g : Geometry) (s fs : List ℕ) where
         }
 
 -- ---- the scratch
-length-of : (s : List ℕ) → length (figuresOf s) ≡ clusters s
+pub length-of : (s : List ℕ) → length (figuresOf s) ≡ clusters s
 unfolding figuresOf
 length-of s = length-figures mostFigure (references s) 0 (clusters s)
 

@@ -2,7 +2,7 @@
 use Prim.Native.Nat.{ℕ, zero, suc, _+_, _*_, _/_, _^_, _≤_, _<_}
 use native.Mathlib.Nat.{add-zero, add-suc, suc-add, zero-add}
 use native.Mathlib.Omega.{arith}
-use mathlib.Core.Path.{_≡_, refl, ap, _∙_}
+use mathlib.Core.Path.{_≡_, refl, sym, ap, _∙_}
 use mathlib.Core.List.{List, _++_, append-assoc, append-nil}
 use lib.ListN.{length, take, getD}
 use Rattle.endian.specs.Big.{be64}
@@ -20,13 +20,13 @@ use Rattle.qcow2_spec.specs.Series.{Bytes}
 use Rattle.qcow2_spec.specs.Opened.{Opened}
 use Rattle.qcow2_spec.specs.declared.Geometry.{Geometry}
 use Rattle.qcow2_spec.specs.declared.Verdict.the-variants.{Leaks}
-use Rattle.packed_wide.specs.Twos.{figuresIn}
+use Rattle.packed_twos.specs.Twos.{figuresIn}
 use Rattle.qcow2_counts.specs.Blocks.{perOf, countPlace, tablePlace}
 use Rattle.qcow2_repair.specs.Leaks.{Figured, Laid, Leaking, mendUnits}
-use Rattle.qcow2_mend.specs.Fixed.{fix}
+use Rattle.qcow2_setcount.specs.Fixed.{fix}
 use Rattle.qcow2_counts.proofs.Sizes.{sizes, block-in, reach, count-is}
-use Rattle.qcow2_put.proofs.Clears.{clear-keeps}
-use Rattle.qcow2_mend.proofs.Fixes.{fix-same}
+use Rattle.qcow2_clear.proofs.Clears.{clear-keeps}
+use Rattle.qcow2_setcount.proofs.Fixes.{fix-same}
 use Rattle.qcow2_repair.proofs.Alone.{leaks-sound, some-leak}
 use Rattle.qcow2_repair.proofs.Apart.{apart}
 use Rattle.qcow2_repair.proofs.Midway.{figure-of}
@@ -56,6 +56,13 @@ unfolding mendUnits repairUnits
 mend-is g s fs gs o zero h = refl
 mend-is g s fs gs o (suc k) h =
     rw (units-last, zero-add, mend-is g s fs gs o k (λ j l. h j (omega arith)), count-is g s o k, o .is-order, h k (omega arith))
+
+-- the definition's list with the figures as they stand in the scratch
+pub repair-figured : (g : Geometry) (s refs : List ℕ) → Leaking g s refs → repairUnits s (figuresIn refs) 0 (g .clusters) ≡ repairUnits s (figuresOf s) 0 (clusters s)
+repair-figured g s refs l =
+    ap (repairUnits s (figuresIn refs) 0) (l .opened .is-clusters)
+    ∙ sym (mend-is g s (figuresIn refs) (figuresIn refs) (l .opened) (clusters s) (λ j h. refl))
+    ∙ mend-is g s (figuresOf s) (figuresIn refs) (l .opened) (clusters s) (figure-of s refs (l .figures))
 
 -- ---- a cleared field
 -- t is s but for bytes before the refcount table and the counts

@@ -14,7 +14,7 @@ use Rattle.qcow2_spec.specs.Check.{repairUnits}
 use Rattle.qcow2_spec.specs.Opened.{Opened}
 use Rattle.qcow2_spec.specs.declared.Geometry.{Geometry}
 use Rattle.qcow2_counts.specs.Blocks.{Reach, countPlace, tablePlace}
-use Rattle.qcow2_mend.specs.Fixed.{fix}
+use Rattle.qcow2_setcount.specs.Fixed.{fix}
 
 -- the counts lie apart from each other, from the refcount table and, as that does, from the header, as they do in an image that is not damaged
 pub record Apart (s : List ℕ) : Type 0 where

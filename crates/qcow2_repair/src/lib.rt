@@ -12,12 +12,37 @@ ghost use Rattle.qcow2_spec.specs.References.{figuresOf};
 ghost use Rattle.qcow2_spec.specs.Check.{repairUnits, verdict, verdictPlan};
 ghost use Rattle.qcow2_spec.specs.Opened.{Opened};
 ghost use Rattle.qcow2_counts.specs.Blocks.{Reach, perOf, countPlace};
-ghost use Rattle.packed_wide.specs.Twos.{many, figuresIn};
+ghost use Rattle.packed_twos.specs.Twos.{many, figuresIn};
 ghost use Rattle.qcow2_repair.specs.Leaks.{Figured, Laid, Leaking, mendUnits};
-ghost use Rattle.qcow2_mend.specs.Fixed.{fixes};
+ghost use Rattle.qcow2_repair.specs.Mends.{mendingOf};
+ghost use Rattle.qcow2_setcount.specs.Fixed.{fixes};
 use qcow2_spec::Geometry;
 use qcow2_spec::Verdict;
 use units::Outcome;
+
+// What a repair is to do: a number, nothing, or to set counts.
+pub enum Mending {
+    Refuse(u8),
+    Nothing,
+    Counts,
+}
+
+// By the verdict: a damaged image is refused.
+pub fn find_mending(v: Verdict) -> Mending
+    ensures { λ r. ⌜ r ≡ mendingOf v ⌝ }
+{
+    match v {
+        Verdict::Sound => Mending::Nothing,
+        Verdict::Leaks(_) => Mending::Counts,
+        Verdict::BadL1(_, _) => Mending::Refuse(17),
+        Verdict::BadL2(_, _, _) => Mending::Refuse(17),
+        Verdict::Shared(_) => Mending::Refuse(17),
+        Verdict::Short(_) => Mending::Refuse(17),
+        Verdict::MarkL1(_) => Mending::Refuse(17),
+        Verdict::MarkL2(_, _) => Mending::Refuse(17),
+        Verdict::Refused(k) => Mending::Refuse(k),
+    }
+}
 
 // The counts of the clusters from i on, which stand in one block, are to be refs.
 fn repair_block(
@@ -67,12 +92,12 @@ fn store(image: &mut [u8], g: Geometry, refs: &[u8], allowance: usize) -> Outcom
     requires { ⌜ Leaking g (now image) (now refs) ⌝ }
     ensures { λ r. ⌜ Done (planned (clearUnits (now (image .entry)) ++ repairUnits (now (image .entry)) (figuresOf (now (image .entry))) 0 (clusters (now (image .entry))))) allowance (now (image .entry)) r (now (image .exit)) ⌝ }
 {
-    let left = qcow2_put::clearing::clear(image, g, allowance);
+    let left = qcow2_clear::clear(image, g, allowance);
     let r = repair(image, g, refs, left);
-    qcow2_put::clearing::whole_end(r, left, allowance)
+    qcow2_clear::whole_end(r, left, allowance)
 }
 
-// A repair by the verdict, with the figures that the check left in refs: a damaged image is refused.
+// A repair by the verdict, with the figures that the check left in refs.
 pub fn verdict_repair(
     image: &mut [u8],
     g: Geometry,
@@ -83,15 +108,10 @@ pub fn verdict_repair(
     requires { ⌜ (Opened g (now image) × Figured (now image) (now refs)) × (v ≡ verdict (now image)) ⌝ }
     ensures { λ r. ⌜ Done (clearing (now (image .entry)) (verdictPlan (now (image .entry)) v)) allowance (now (image .entry)) r (now (image .exit)) ⌝ }
 {
-    match v {
-        Verdict::Sound => units::end_of(0, allowance),
-        Verdict::Leaks(_) => store(image, g, refs, allowance),
-        Verdict::BadL1(_, _) => Outcome::Refused(17),
-        Verdict::BadL2(_, _, _) => Outcome::Refused(17),
-        Verdict::Shared(_) => Outcome::Refused(17),
-        Verdict::Short(_) => Outcome::Refused(17),
-        Verdict::MarkL1(_) => Outcome::Refused(17),
-        Verdict::MarkL2(_, _) => Outcome::Refused(17),
-        Verdict::Refused(k) => Outcome::Refused(k),
+    let m = find_mending(v);
+    match m {
+        Mending::Refuse(k) => Outcome::Refused(k),
+        Mending::Nothing => units::end_of(0, allowance),
+        Mending::Counts => store(image, g, refs, allowance),
     }
 }

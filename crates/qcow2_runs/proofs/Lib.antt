@@ -1,4 +1,2 @@
-pub mod Levels
-pub mod Below
 pub mod Stretches
 pub mod Listing

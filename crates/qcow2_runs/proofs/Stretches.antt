@@ -19,7 +19,8 @@ use Rattle.qcow2_spec.proofs.Runs.{same-self}
 use Rattle.qcow2_guest.specs.Rows.{rowLeft}
 use Rattle.qcow2_guest.proofs.Pieces.{located-moved}
 use Rattle.qcow2_guest.proofs.Bytes.{row-left-some}
-use Rattle.qcow2_runs.specs.Going.{Goes, Ahead, runFrom}
+use Rattle.qcow2_stretch.specs.Going.{Goes, Ahead}
+use Rattle.qcow2_runs.specs.Ends.{runFrom}
 
 -- ---- the first guest cluster
 module _ (g : Geometry) (s : List ℕ) (o : Opened g s) (x len first : ℕ) (e : first ≡ min (2 ^ g .bits - x % 2 ^ g .bits) len) where

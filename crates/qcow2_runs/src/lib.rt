@@ -6,19 +6,10 @@ ghost use Rattle.endian.specs.Big.{splice};
 ghost use Rattle.qcow2_spec.specs.Guest.{reach, located};
 ghost use Rattle.qcow2_spec.specs.Runs.{runLength, runRow, runRows, listRuns, runsInto};
 ghost use Rattle.qcow2_spec.specs.Opened.{Opened};
-ghost use Rattle.qcow2_runs.specs.Going.{runFrom};
+ghost use Rattle.qcow2_runs.specs.Ends.{runFrom};
 use qcow2_spec::Found;
 use qcow2_spec::Geometry;
 use qcow2_spec::Listed;
-
-mod rows;
-
-// What lies below an L1 entry.
-enum Row {
-    Bad,
-    Empty,
-    Table(usize),
-}
 
 // Where the run from x ends, of whose len bytes i0 are known and end with a guest cluster.
 fn next_rows(image: &[u8], g: Geometry, x: u64, f: Found, i0: u64, len: u64) -> u64
@@ -28,7 +19,7 @@ fn next_rows(image: &[u8], g: Geometry, x: u64, f: Found, i0: u64, len: u64) -> 
     let mut i = i0;
     while i < len {
         let m = qcow2_guest::row_left(x + i, (len - i) as usize, g.bits) as u64;
-        let r = rows::in_next_row(image, g, x, f, i, m);
+        let r = qcow2_stretch::in_next_row(image, g, x, f, i, m);
         if r < m {
             return i + r;
         }
@@ -61,8 +52,8 @@ fn next_run(image: &[u8], g: Geometry, x: u64, len: u64, rows: &mut [u64], at: u
     requires { ⌜ (Opened g (now image)) × (((0 < len) × (x + len ≤ reach (now image) (g .root))) × (at + 3 ≤ length (now rows))) ⌝ }
     ensures { λ r. ⌜ (r ≡ runLength (now (image .entry)) (g .root) x len) × (now (rows .exit) ≡ splice (now (rows .entry)) at (runRow (located (now (image .entry)) (g .root) x) r)) ⌝ }
 {
-    let w = rows::row_at(image, g, power::quotient(x, g.bits));
-    let f = rows::found_in(image, g, w, x);
+    let w = qcow2_stretch::row_at(image, g, power::quotient(x, g.bits));
+    let f = qcow2_stretch::found_in(image, g, w, x);
     let r = run_length(image, g, x, f, len);
     put_row(rows, at, f, r);
     r

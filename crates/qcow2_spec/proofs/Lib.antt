@@ -10,9 +10,13 @@ pub mod Ways
 pub mod Bytewise
 pub mod Lookup
 pub mod Rough
+pub mod Flush
+pub mod Sectors
+pub mod Extents
 pub mod Units
 pub mod Plans
 pub mod Series
+pub mod Brought
 pub mod Difference
 pub mod Room
 pub mod Runs

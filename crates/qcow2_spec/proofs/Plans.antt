@@ -1,35 +1,37 @@
--- Every call's list of units, cut anywhere, keeps the image sound or leaking and feeds the plain disk as the rules say. Assumes nothing.
+-- Every call's list of units, cut between any two flushes with any of the units there stored, keeps the image sound or leaking and feeds the plain disk as the rules say. Assumes nothing.
 use Prim.Native.Nat.{ℕ, zero, suc, _+_, _-_, _*_, _/_, _%_, _≤_, _<_}
-use native.Mathlib.Nat.{le-refl, zero-mul, zero-add, suc-ne-zero, add-zero, div-lt-iff-lt-mul, mod-lt, div-add-mod', mul-le-mul-right, lt-of-mul-lt-mul-right}
+use native.Mathlib.Nat.{zero-mul, zero-add, suc-ne-zero, add-zero, div-eq-of-lt, div-lt-iff-lt-mul, mod-lt, div-add-mod', mul-le-mul-right, lt-of-mul-lt-mul-right}
 use native.Mathlib.Decide.{ℕ-discrete, decLe, decLt}
 use native.Mathlib.Omega.{arith}
 use mathlib.Core.Path.{_≡_, refl, sym, ap, ap₂, _∙_, subst}
 use mathlib.Core.Logic.{_⊎_, inl, inr, _≢_}
 use mathlib.Core.Bool.{Bool, true, false, _&&_, _||_}
-use mathlib.Core.List.{List, [], _∷_, _++_, append-assoc}
+use mathlib.Core.List.{List, [], _∷_, _++_}
 use lib.Dec.{leb, ltb, eqb}
-use lib.ListN.{length, getD}
-use lib.Seq.{sets}
+use lib.ListN.{length, getD, take, drop, replicate, length-replicate}
+use lib.Seq.{sets, take-nil, drop-nil}
 use borrow.Author.Tests.{ltb-true, ltb-false, leb-true, leb-false, eqb-true, eqb-false, le-leb, lt-ltb}
 use Rattle.cuts.proofs.Cell.{mem, small-enc}
 use Rattle.cuts.proofs.Meta.{cnt, Has, l2, tab, dat, refsOf, Sound, dat-none, keep-refs}
 use Rattle.cuts.proofs.Step.{gread, gread-none, split-index, dat-in, free-not-0, Quiet}
-use Rattle.cuts.proofs.Run.{Store, Run, fill}
+use Rattle.cuts.proofs.Run.{Store, fill, Epoch, epoch-only, epoch-late}
+use Rattle.cuts.proofs.Run.{none as eachNone, also as eachAlso}
 use Rattle.cuts.proofs.Call.{Ok, SameGuest, Zeroed, MidZ, EndZ, discard-run, unmark-run, countStore}
 use Rattle.cuts.proofs.Write.{Wrote, Partly, MidW, EndW, MidP, place-run, marked-run, alloc-run, table-run}
 use Rattle.cuts.proofs.Repair.{MidR, Repaired, repair-run}
 use Rattle.cuts.proofs.Idle.{idle-store}
 use Rattle.choice.specs.Pick.{if_then_else_, first}
-use Rattle.endian.specs.Big.{bytes64}
-use Rattle.endian.proofs.Laws.{length-bytes64}
-use Rattle.qcow2_spec.specs.Header.{mostL1, autoclearAt, autoclear, clusterSize, clusters, diskSize, perTable, roots, rootSize, judge}
+use Rattle.endian.specs.Big.{be64, bytes64}
+use Rattle.endian.proofs.Laws.{length-bytes64, sets-splice, be64-stored}
+use Rattle.units.proofs.Laws.{length-applyAll}
+use Rattle.qcow2_spec.specs.Header.{mostL1, autoclearAt, autoclear, version, clusterSize, clusters, diskSize, perTable, roots, rootSize, judge}
 use Rattle.qcow2_spec.specs.Entries.{place, zeroMark}
 use Rattle.qcow2_spec.specs.Counts.{countOf, freeAt, freeFrom}
 use Rattle.qcow2_spec.specs.declared.Way.{Way}
 use Rattle.qcow2_spec.specs.declared.Way.the-variants.{Bad as bad, NoTable as noTable, Slot as slot}
 use Rattle.qcow2_spec.specs.Guest.{reach, outside}
-use Rattle.units.specs.Plan.{Plan, refused, units}
-use Rattle.units.specs.Units.{UnitStore, entry, apply as applyU, applyAll, fill as fillU, cluster}
+use Rattle.units.specs.Plan.{Plan, refused, units, planUnits}
+use Rattle.units.specs.Units.{UnitStore, entry, apply as applyU, applyAll, cluster}
 use Rattle.qcow2_spec.specs.Entries.{newEntry}
 use Rattle.qcow2_spec.specs.Counts.{setCount}
 use Rattle.qcow2_spec.specs.Store.{ownWay, clearUnits, clearing, judged, allot, writeNew, writeTable, writeSlot, writeWay, writePlan, discardSlot, discardWay, discardPlan}
@@ -41,8 +43,8 @@ use Rattle.qcow2_spec.specs.declared.Verdict.{Verdict}
 use Rattle.qcow2_spec.specs.declared.Verdict.the-variants.{Sound as IsSound, Leaks, BadL1, BadL2, Shared, Short, MarkL1, MarkL2, Refused as NotChecked}
 use Rattle.units.specs.Plan.{storesCount}
 use Rattle.qcow2_spec.specs.Disk.{Request, write, discard, repair, planOf, finished, SameDisk, Mixed, Fed}
-use Rattle.qcow2_spec.specs.Rough.{chosen, roughly}
-use Rattle.qcow2_spec.specs.Series.{Bytes, BytesOf}
+use Rattle.qcow2_spec.specs.Flush.{storesEntry, halves, epochs, picked}
+use Rattle.qcow2_spec.specs.Series.{ClearedFirst, Bytes, BytesOf}
 use Rattle.choice.proofs.Tests.{if-yes, if-no, if-elim, and-true, or-false, two-ways}
 use Rattle.qcow2_spec.proofs.Facts.{Facts, c-pos, c-big, root-few, root-count}
 use Rattle.qcow2_spec.proofs.Numbers.{enc8}
@@ -50,8 +52,11 @@ use Rattle.qcow2_spec.proofs.Geo.{nr, geo, code, geo-ok}
 use Rattle.qcow2_spec.proofs.Kept.{has, cnt-own}
 use Rattle.qcow2_spec.proofs.Verdicts.{refs-own, sound-exact}
 use Rattle.qcow2_spec.proofs.Ways.{rd, Slot, Own, OwnIs, own-way, dat-own, dat-place, dat-zero, dat-some-own, reach-in, in-root, inside}
-use Rattle.qcow2_spec.proofs.Rough.{roughly-nil, roughly-all}
-use Rattle.qcow2_spec.proofs.Units.{Twin, Like, none, also, like-append, like-run, like-cut, like-aside, like-fill, fill-quiet, cluster-around, count-aside, link-aside, entry-aside, count-like, entry-like, link-like, repair-like}
+use Rattle.qcow2_spec.proofs.Flush.{halves-entry, halves-table, halves-drop, halves-none, picked-nil, picked-all, Held}
+use Rattle.qcow2_spec.proofs.Sectors.{spot, wide, sector-entry, Ins}
+use Rattle.qcow2_spec.proofs.Extents.{covers-one, Disjoint, Beside, Apart, beside-none}
+use Rattle.qcow2_spec.proofs.Sectors.{none as allNone, also as allAlso}
+use Rattle.qcow2_spec.proofs.Units.{Twin, Like, none, also, like-append, like-picked, like-in, like-epochs, like-aside, like-some, like-covers, Off, like-apart, like-fill, like-cluster, fill-quiet, fill-plain, repair-plain, off-new, off-slot, off-drop, off-table, count-aside, link-aside, entry-aside, count-like, entry-like, link-like, repair-like}
 
 -- ---- the disk after a write
 module _ (C x : ℕ) (d : List ℕ) (disk : ℕ → ℕ) (y : ℕ) where
@@ -278,17 +283,66 @@ module _ (s : List ℕ) (f : Facts s) where
   abbrev pub End : Request → List ℕ → Type 0
   End r t = Kept t × (SameDisk (diskSize s) (seen t) (finished (clusterSize s) r (seen s)) × Exact r t) × Shots t
 
-  -- the autoclear field may as well be cleared before the units of a list as after them
+  -- the autoclear field may as well be cleared before the units of an epoch as after them, whichever are stored
   abbrev Aside : List UnitStore → Type 0
-  Aside us = (a : ℕ) (cs : List Bool) (t : List ℕ) → applyAll (roughly us a cs) (applyU clear t) ≡ applyU clear (applyAll (roughly us a cs) t)
+  Aside us = (cs : List Bool) (t : List ℕ) → applyAll (picked cs us) (applyU clear t) ≡ applyU clear (applyAll (picked cs us) t)
 
-  unfoldable pub Fine : Request → Plan → Type 0
+  unfoldable Asides : List (List UnitStore) → Type 0
+  Asides [] = Unit {0}
+  Asides (us ∷ es) = Aside us × Asides es
+
+  -- nothing is stored while an autoclear bit stands
+  abbrev pub Clean : List (List UnitStore) → List ℕ → Type 0
+  Clean es t = Held (ClearedFirst s) (λ (u : List ℕ). Unit {0}) es t
+
+  abbrev pub SureIn : Request → Bool → List (List UnitStore) → Type 0
+  SureIn r b es = Held (Mid r b) (End r) es s × Clean es s × Ins es × Apart es
+
+  -- a list before the clearing unit is put in front of it
+  unfoldable Fine : Request → Plan → Type 0
   Fine r (refused n) = Unit {0}
-  Fine r (units us) = ((a : ℕ) (cs : List Bool) → Mid r (storesCount us) (applyAll (roughly us a cs) s)) × End r (applyAll us s) × Aside us
+  Fine r (units us) = Held (Mid r (storesCount us)) (End r) (halves us) s × Asides (halves us) × Ins (halves us) × Apart ((clear ∷ []) ∷ halves us)
+
+  -- a call's list
+  unfoldable pub Sure : Request → Plan → Type 0
+  Sure r (refused n) = Unit {0}
+  Sure r (units us) = SureIn r (storesCount us) (epochs s us)
+
+  -- no unit lies over a sector's end
+  pub sure-in : (r : Request) (p : Plan) → Sure r p → Ins (epochs s (planUnits p))
+  unfolding Sure planUnits epochs Ins storesEntry
+  sure-in r (refused n) h = rw (take-nil {A = UnitStore} (length (clearUnits s)), drop-nil {A = UnitStore} (length (clearUnits s)), halves-none [] refl) (allNone, (allNone, (allNone, tt)))
+  sure-in r (units us) h = h .2
+
+  -- no byte is stored in two epochs
+  pub sure-apart : (r : Request) (p : Plan) → Sure r p → Apart (epochs s (planUnits p))
+  unfolding Sure planUnits epochs Apart Beside storesEntry
+  sure-apart r (refused n) h = rw (take-nil {A = UnitStore} (length (clearUnits s)), drop-nil {A = UnitStore} (length (clearUnits s)), halves-none [] refl) (beside-none ([] ∷ [] ∷ []), (beside-none ([] ∷ []), (tt, tt)))
+  sure-apart r (units us) h = h .3
+
+  -- the autoclear field lies in cluster 0
+  clear-apart : {us : List UnitStore} {vs : List Store} → Like (clusterSize s) us vs → Disjoint (clear ∷ []) us
+  unfolding spot wide
+  clear-apart lk x p q =
+      let l : x < clusterSize s = omega (arith, covers-one clear x p, c-big s f) in
+      like-covers (λ (w : ℕ). w ≢ 0) lk (like-some lk) x q (div-eq-of-lt l)
 
   like-clear : {us : List UnitStore} {vs : List Store} → Like (clusterSize s) us vs → Aside us
   unfolding applyU
-  like-clear lk a cs = like-aside (like-cut lk a cs) autoclearAt (bytes64 0) (omega (arith, length-bytes64 0, c-big s f))
+  like-clear lk cs = like-aside (like-picked lk cs) autoclearAt (bytes64 0) (omega (arith, length-bytes64 0, c-big s f))
+
+  -- by the machinery's two epochs
+  fine-by : (r : Request) (ls us ws : List UnitStore) (vs xs : List Store) (M Q : List ℕ → Type 0) → halves ls ≡ us ∷ ws ∷ [] → Like (clusterSize s) us vs → Like (clusterSize s) ws xs → Off vs xs
+      → ((t : List ℕ) → M t → Mid r (storesCount ls) t) → ((t : List ℕ) → Q t → End r t)
+      → Epoch (clusterSize s) M vs s (λ t. Epoch (clusterSize s) M xs t Q) → Fine r (units ls)
+  unfolding Fine Asides Ins Apart Beside
+  fine-by r ls us ws vs xs M Q e lk lk′ off hm hq run =
+      rw e (
+        like-epochs (Mid r (storesCount ls)) (End r) s lk lk′ ((λ cs. hm _ (run .0 cs)), ((λ cs. hm _ (run .1 .0 cs)), hq _ (run .1 .1))),
+        (like-clear lk, (like-clear lk′, tt)),
+        (like-in lk, (like-in lk′, tt)),
+        ((clear-apart lk, (clear-apart lk′, tt)), ((like-apart lk lk′ off, tt), (tt, tt))),
+      )
 
   -- ---- clearing it changes neither what the tables say nor what the guest reads
   module _ (t : List ℕ) (k : Kept t) where
@@ -321,49 +375,98 @@ module _ (s : List ℕ) (f : Facts s) where
     unfolding SameDisk
     end-cleared r h = (cleared .0, ((λ y l. cleared-seen y l ∙ h .1 .0 y l), exact-cleared r (h .1 .1)), λ a b x l n p q. cleared .1 .reads a b x l p q ∙ h .2 a b x l n p q)
 
+  whole-aside : (us : List UnitStore) (t : List ℕ) → Aside us → applyAll us (applyU clear t) ≡ applyU clear (applyAll us t)
+  whole-aside us t z = rw (picked-all us) at (z (replicate (length us) true) t)
+
   module _ (k : Kept s) where
     -- a list that is fine is so after the clearing unit
-    fine-first : (r : Request) (us : List UnitStore) → Fine r (units us) → Fine r (units (clear ∷ us))
-    unfolding Fine storesCount applyAll SameDisk roughly chosen
-    fine-first r us h = (cut, subst (End r) (sym whole) (end-cleared _ (h .1 .0) r (h .1)), aside)
+    held-clear : (r : Request) (b : Bool) (es : List (List UnitStore)) (t : List ℕ) → Held (Mid r b) (End r) es t → Asides es → Held (Mid r b) (End r) es (applyU clear t)
+    unfolding Held Asides
+    held-clear r b [] t h z = end-cleared t (h .0) r h
+    held-clear r b (us ∷ es) t h z = (
+      (λ cs. subst (Mid r b) (sym (z .0 cs t)) (mid-cleared _ (h .0 cs .0) r b (h .0 cs))),
+      subst (Held (Mid r b) (End r) es) (sym (whole-aside us t (z .0))) (held-clear r b es (applyAll us t) (h .1) (z .1)),
+    )
+
+    pub untouched : (r : Request) (b : Bool) → Mid r b s
+    unfolding SameDisk
+    untouched r b = (k, strong b (diskSize s) (seen s) (finished (clusterSize s) r (seen s)) (seen s) (inl (λ y l. refl)), λ a b x l n p q. refl)
+
+    -- ---- the clearing unit is an epoch of its own
+    zeroed : (t : List ℕ) → length t ≡ length s → autoclear (applyU clear t) ≡ 0
+    unfolding autoclear applyU
+    zeroed t e =
+        if-elim (λ (n : ℕ). n ≡ 0) (eqb (version (sets t autoclearAt (bytes64 0))) 3) _ _
+        (λ v. ap (λ (l : List ℕ). be64 l autoclearAt) (sets-splice t autoclearAt (bytes64 0) (omega (arith, length-bytes64 0, f .long, e)))
+        ∙ be64-stored t autoclearAt 0 (omega (arith, f .long, e)) (omega arith))
+        (λ v. refl)
+
+    first-clear : (es : List (List UnitStore)) (t : List ℕ) → length t ≡ length s → Asides es → Clean es (applyU clear t)
+    unfolding Held Asides ClearedFirst
+    first-clear [] t e z = tt
+    first-clear (us ∷ es) t e z = (
+      (λ cs n. inr (rw (z .0 cs t) (zeroed _ (length-applyAll (picked cs us) t ∙ e)))),
+      subst (Clean es) (sym (whole-aside us t (z .0))) (first-clear es (applyAll us t) (length-applyAll us t ∙ e) (z .1)),
+    )
+
+    sure-first : (r : Request) (us : List UnitStore) → Fine r (units us) → SureIn r (storesCount us) ((clear ∷ []) ∷ halves us)
+    unfolding Fine Held ClearedFirst Ins Apart applyAll picked
+    sure-first r us h = ((cut, held-clear r (storesCount us) (halves us) s (h .0) (h .1)), (clean, first-clear (halves us) s refl (h .1)), (allAlso (sector-entry autoclearAt 0 refl) allNone, h .2), h .3)
       where
-        -- a cut before the clearing unit stores nothing
-        uncut : (cs : List Bool) → roughly (clear ∷ us) 0 cs ≡ []
-        uncut [] = refl
-        uncut (c ∷ cs) = refl
+        cut : (cs : List Bool) → Mid r (storesCount us) (applyAll (picked cs (clear ∷ [])) s)
+        cut [] = untouched r (storesCount us)
+        cut (false ∷ cs) = rw (picked-nil cs) (untouched r (storesCount us))
+        cut (true ∷ cs) = rw (picked-nil cs) (mid-cleared s k r (storesCount us) (untouched r (storesCount us)))
 
-        cut : (a : ℕ) (cs : List Bool) → Mid r (storesCount us) (applyAll (roughly (clear ∷ us) a cs) s)
-        cut zero cs = rw (uncut cs) (k, strong (storesCount us) (diskSize s) (seen s) (finished (clusterSize s) r (seen s)) (seen s) (inl (λ y l. refl)), λ a b x l n p q. refl)
-        cut (suc a) cs = subst (Mid r (storesCount us)) (sym (h .2 a cs s)) (mid-cleared _ (h .0 a cs .0) r (storesCount us) (h .0 a cs))
+        clean : (cs : List Bool) → ClearedFirst s (applyAll (picked cs (clear ∷ [])) s)
+        clean [] n = inl refl
+        clean (false ∷ cs) n = rw (picked-nil cs) (inl refl)
+        clean (true ∷ cs) n = rw (picked-nil cs) (inr (zeroed s refl))
 
-        whole : applyAll us (applyU clear s) ≡ applyU clear (applyAll us s)
-        whole = let e : roughly us (length us) [] ≡ us = roughly-all us (length us) [] (le-refl (length us)) in rw e at (h .2 (length us) [] s)
+    -- an empty epoch in its place
+    sure-none : (r : Request) (us : List UnitStore) → Fine r (units us) → Clean ([] ∷ halves us) s → SureIn r (storesCount us) ([] ∷ halves us)
+    unfolding Fine Held Ins Apart applyAll
+    sure-none r us h c = (((λ cs. rw (picked-nil cs) (untouched r (storesCount us))), h .0), c, (allNone, h .2), (beside-none (halves us), h .3 .1))
 
-        aside : Aside (clear ∷ us)
-        aside zero cs t = rw (uncut cs) refl
-        aside (suc a) cs t = h .2 a cs (applyU clear t)
+    -- no bit stands
+    no-bit : autoclear s ≡ 0 → (es : List (List UnitStore)) (t : List ℕ) → Clean es t
+    unfolding Held ClearedFirst
+    no-bit e [] t = tt
+    no-bit e (us ∷ es) t = ((λ cs n. absurd (n e)), no-bit e es (applyAll us t))
 
-    fine-clearing : (r : Request) (p : Plan) → Fine r p → Fine r (clearing s p)
-    unfolding clearing clearUnits
-    fine-clearing r (refused n) h = h
-    fine-clearing r (units []) h = h
-    fine-clearing r (units (u ∷ us)) h =
-        if-elim (λ (ls : List UnitStore). Fine r (units (ls ++ u ∷ us))) (eqb (autoclear s) 0) _ _ (λ e. h) (λ e. fine-first r (u ∷ us) h)
+    no-unit : Clean ([] ∷ halves []) s
+    unfolding Held ClearedFirst applyAll storesEntry
+    no-unit =
+        let q : (cs : List Bool) → ClearedFirst s (applyAll (picked cs []) s) = λ cs n. rw (picked-nil cs) (inl refl) in
+        rw (halves-none [] refl) (q, (q, (q, tt)))
+
+    sure-clearing : (r : Request) (p : Plan) → Fine r p → Sure r (clearing s p)
+    unfolding clearing clearUnits epochs Sure storesCount
+    sure-clearing r (refused n) h = tt
+    sure-clearing r (units []) h = rw (take-nil {A = UnitStore} (length (clearUnits s)), drop-nil {A = UnitStore} (length (clearUnits s))) (sure-none r [] h no-unit)
+    sure-clearing r (units (u ∷ us)) h =
+        if-elim (λ (ls : List UnitStore). SureIn r (storesCount (ls ++ u ∷ us)) (take (length ls) (ls ++ u ∷ us) ∷ halves (drop (length ls) (ls ++ u ∷ us))))
+        (eqb (autoclear s) 0) _ _ (λ e. sure-none r (u ∷ us) h (no-bit (eqb-true _ _ e) _ s)) (λ e. sure-first r (u ∷ us) h)
 
     snd : Sound (geo s) (code s) m
     snd = k .sound
 
     fine-none : (r : Request) → SameDisk (diskSize s) (seen s) (finished (clusterSize s) r (seen s)) → Exact r s → Fine r (units [])
-    unfolding Fine applyAll SameDisk
-    fine-none r h e = ((λ a cs. rw (roughly-nil a cs) (k, strong (storesCount []) (diskSize s) (seen s) (finished (clusterSize s) r (seen s)) (seen s) (inl (λ y l. refl)), λ u b x l n p q. refl)), (k, (h, e), λ u b x l n p q. refl), like-clear none)
+    unfolding Fine Held Asides Ins Apart Beside applyAll storesEntry
+    fine-none r h e =
+        let q : (cs : List Bool) → Mid r (storesCount []) (applyAll (picked cs []) s) = λ cs. rw (picked-nil cs) (untouched r (storesCount [])) in
+        rw (halves-none [] refl) ((q, (q, (k, (h, e), λ u b x l n p q. refl))), (like-clear none, (like-clear none, tt)), (allNone, (allNone, tt)), ((clear-apart none, (clear-apart none, tt)), (beside-none ([] ∷ []), (tt, tt))))
 
     fine-refused : (r : Request) (n : ℕ) → Fine r (refused n)
     unfolding Fine
     fine-refused r n = tt
 
-    -- a cluster with count 0 is not the header's
+    -- a cluster with count 0 has no reference, and is not the header's
+    unused : (c : ℕ) → c < clusters s → cnt (geo s) m c ≡ 0 → refsOf (geo s) (code s) m c ≡ 0
+    unused c l z = omega (arith, snd .inv .covered c l)
+
     empty : (c : ℕ) → c < clusters s → cnt (geo s) m c ≡ 0 → c ≢ 0
-    empty c l z = free-not-0 (geo s) (code s) (geo-ok s f) m snd c (omega (arith, snd .inv .covered c l))
+    empty c l z = free-not-0 (geo s) (code s) (geo-ok s f) m snd c (unused c l z)
 
     -- the lowest free cluster
     first-is : (p : ℕ → Bool) (i n : ℕ) → first p i n < i + n → (i ≤ first p i n) × (p (first p i n) ≡ true)
@@ -418,16 +521,15 @@ module _ (s : List ℕ) (f : Facts s) where
       lj : j < perTable s
       lj = mod-lt (x / clusterSize s) ep
 
-      fine-w : (us : List UnitStore) (vs : List Store) → Like (clusterSize s) us vs
-          → Run (clusterSize s) (MidW (geo s) (code s) (geo-ok s f) m i j o d s) vs s (EndW (geo s) (code s) (geo-ok s f) m i j o d s)
-          → Fine (write x d) (units us)
-      unfolding Fine Exact
-      fine-w us vs lk q =
-          let r = like-run (MidW (geo s) (code s) (geo-ok s f) m i j o d s) (EndW (geo s) (code s) (geo-ok s f) m i j o d s) s lk q in (
-            (λ a cs. (r .0 a cs .0, strong (storesCount us) (diskSize s) (seen s) (finished (clusterSize s) (write x d) (seen s)) (seen (applyAll (roughly us a cs) s)) (choose _ (r .0 a cs .1)), shots _ (r .0 a cs .1))),
-            (r .1 .0, (wrote-rd _ x d inC (r .1 .1), tt), wrote-shots _ i j o d iM (r .1 .1)),
-            like-clear lk,
-          )
+      fine-w : (ls us ws : List UnitStore) (vs xs : List Store) → halves ls ≡ us ∷ ws ∷ [] → Like (clusterSize s) us vs → Like (clusterSize s) ws xs → Off vs xs
+          → Epoch (clusterSize s) (MidW (geo s) (code s) (geo-ok s f) m i j o d s) vs s
+          (λ t. Epoch (clusterSize s) (MidW (geo s) (code s) (geo-ok s f) m i j o d s) xs t (EndW (geo s) (code s) (geo-ok s f) m i j o d s))
+          → Fine (write x d) (units ls)
+      unfolding Exact
+      fine-w ls us ws vs xs e lk lk′ off =
+          fine-by (write x d) ls us ws vs xs (MidW (geo s) (code s) (geo-ok s f) m i j o d s) (EndW (geo s) (code s) (geo-ok s f) m i j o d s) e lk lk′ off
+          (λ t h. (h .0, strong (storesCount ls) (diskSize s) (seen s) (finished (clusterSize s) (write x d) (seen s)) (seen t) (choose t (h .1)), shots t (h .1)))
+          (λ t h. (h .0, (wrote-rd t x d inC (h .1), tt), wrote-shots t i j o d iM (h .1)))
         where
           choose : (t : List ℕ) → SameGuest (geo s) (code s) s t ⊎ Wrote (geo s) (code s) i j o d s t
               → SameDisk (diskSize s) (seen t) (seen s) ⊎ SameDisk (diskSize s) (seen t) (finished (clusterSize s) (write x d) (seen s))
@@ -438,21 +540,19 @@ module _ (s : List ℕ) (f : Facts s) where
           shots t (inl h) = same-shots t h
           shots t (inr h) = wrote-shots t i j o d iM h
 
-      fine-place : (us : List UnitStore) → storesCount us ≡ false → Like (clusterSize s) us (fill (dat (geo s) (code s) m i j) o d)
+      fine-place : (us : List UnitStore) → storesCount us ≡ false → storesEntry us ≡ false → Like (clusterSize s) us (fill (dat (geo s) (code s) m i j) o d)
           → dat (geo s) (code s) m i j ≢ 0 → refsOf (geo s) (code s) m (dat (geo s) (code s) m i j) ≤ 1 → l2 (geo s) m (tab (geo s) (code s) m i) j % 2 ≡ 0 → Fine (write x d) (units us)
-      unfolding Fine Exact Fed
-      fine-place us quiet lk dn one fl =
-          let r = like-run (MidP (geo s) (code s) (geo-ok s f) m i j o d s) (EndW (geo s) (code s) (geo-ok s f) m i j o d s) s lk
-          (place-run (geo s) (code s) (geo-ok s f) m s k i j o d li lj inC sm dn one fl) in (
-            (λ a cs. (
-              r .0 a cs .0,
-              λ u. subst (λ (b : Bool). Fed (Stopped u) b (diskSize s) (seen s) (finished (clusterSize s) (write x d) (seen s)) (seen (applyAll (roughly us a cs) s))) (sym quiet)
-                  (part-rd _ x d inC (r .0 a cs .1)),
-              wrote-shots _ i j o (r .0 a cs .1 .bytes) iM (r .0 a cs .1 .wrote),
-            )),
-            (r .1 .0, (wrote-rd _ x d inC (r .1 .1), tt), wrote-shots _ i j o d iM (r .1 .1)),
-            like-clear lk,
-          )
+      unfolding Exact Fed
+      fine-place us quiet plain lk dn one fl =
+          fine-by (write x d) us us [] _ [] (MidP (geo s) (code s) (geo-ok s f) m i j o d s) (EndW (geo s) (code s) (geo-ok s f) m i j o d s) (halves-none us plain) lk none eachNone
+          (λ t h. (
+            h .0,
+            λ u. subst (λ (b : Bool). Fed (Stopped u) b (diskSize s) (seen s) (finished (clusterSize s) (write x d) (seen s)) (seen t)) (sym quiet) (part-rd t x d inC (h .1)),
+            wrote-shots t i j o (h .1 .bytes) iM (h .1 .wrote),
+          ))
+          (λ t h. (h .0, (wrote-rd t x d inC (h .1), tt), wrote-shots t i j o d iM (h .1)))
+          (epoch-only (clusterSize s) (MidP (geo s) (code s) (geo-ok s f) m i j o d s) _ s (EndW (geo s) (code s) (geo-ok s f) m i j o d s)
+          (place-run (geo s) (code s) (geo-ok s f) m s k i j o d li lj inC sm dn one fl))
 
       fine-new : (a c : ℕ) → a ≡ tab (geo s) (code s) m i * clusterSize s + 8 * j → tab (geo s) (code s) m i ≢ 0 → dat (geo s) (code s) m i j ≡ 0
           → refsOf (geo s) (code s) m (tab (geo s) (code s) m i) ≤ 1 → (c < clusters s → cnt (geo s) m c ≡ 0) → Fine (write x d) (writeNew s a c o d)
@@ -460,10 +560,11 @@ module _ (s : List ℕ) (f : Facts s) where
       fine-new a c at tn dz one z =
           if-elim (Fine (write x d)) (leb (clusters s) c) _ _ (λ h. fine-refused (write x d) 14)
           (λ h. let l : c < clusters s = leb-false _ _ h in
-          fine-w _ _
+          fine-w _ _ _ _ _ (halves-entry _ a _)
           (also (λ t. count-like s f c 1 l t) (count-aside s f snd c 1 l)
-          (like-append (subst (λ (bs : List ℕ). Like (clusterSize s) (fillU (c * clusterSize s) (cluster (clusterSize s) o d)) (fill c 0 bs)) (cluster-around (clusterSize s) o d) (like-fill (clusterSize s) (c * clusterSize s) c 0 _ (sym (add-zero _)) (empty c l (z l))))
-          (also (λ t. entry-like s f a (tab (geo s) (code s) m i) j _ _ at refl t) (entry-aside s f _ j _ tn) none)))
+          (like-cluster (clusterSize s) (c * clusterSize s) c o d refl inC (empty c l (z l))))
+          (also (λ t. entry-like s f a (tab (geo s) (code s) m i) j _ _ at lj refl t) (entry-aside s f _ j _ tn) none)
+          (off-new s f snd i li j c 1 _ _ l (unused c l (z l)) tn one)
           (alloc-run (geo s) (code s) (geo-ok s f) m s k i j o d li lj inC sm c l (z l) tn dz one))
 
       fine-table : (t c : ℕ) → tab (geo s) (code s) m i ≡ 0 → (c < clusters s → t < c) → (t < clusters s → cnt (geo s) m t ≡ 0) → (c < clusters s → cnt (geo s) m c ≡ 0)
@@ -473,14 +574,15 @@ module _ (s : List ℕ) (f : Facts s) where
           if-elim (Fine (write x d)) (leb (clusters s) c) _ _ (λ h. fine-refused (write x d) 14)
           (λ h. let l : c < clusters s = leb-false _ _ h in
           let b : t < c = tc l in
-          rw append-assoc
-          (fine-w _ _
-          (like-append (also (λ r. count-like s f t 1 (omega arith) r) (count-aside s f snd t 1 (omega arith)) (like-fill (clusterSize s) (t * clusterSize s) t 0 _ (sym (add-zero _)) (empty t (omega arith) (zt (omega arith)))))
+          fine-w _ _ _ _ _ (halves-table (allot s t _) (allot s c _) _ _ _)
+          (like-append (also (λ r. count-like s f t 1 (omega arith) r) (count-aside s f snd t 1 (omega arith)) (like-fill (clusterSize s) (t * clusterSize s) t 0 _ (sym (add-zero _)) (omega (arith, length-replicate {A = ℕ} (clusterSize s) 0)) (empty t (omega arith) (zt (omega arith)))))
           (like-append
           (also (λ r. count-like s f c 1 l r) (count-aside s f snd c 1 l)
-          (subst (λ (bs : List ℕ). Like (clusterSize s) (fillU (c * clusterSize s) (cluster (clusterSize s) o d)) (fill c 0 bs)) (cluster-around (clusterSize s) o d) (like-fill (clusterSize s) (c * clusterSize s) c 0 _ (sym (add-zero _)) (empty c l (zc l)))))
-          (also (λ r. entry-like s f _ t j _ _ refl refl r) (entry-aside s f t j _ (empty t (omega arith) (zt (omega arith)))) (also (λ r. link-like s f (x / clusterSize s) _ (omega (arith, iM)) r) (link-aside s f snd i _ li hi) none))))
-          (table-run (geo s) (code s) (geo-ok s f) m s k i j o d li lj inC sm t c (omega arith) l (omega arith) (zt (omega arith)) (zc l) hi tz)))
+          (like-cluster (clusterSize s) (c * clusterSize s) c o d refl inC (empty c l (zc l))))
+          (also (λ r. entry-like s f _ t j _ _ refl lj refl r) (entry-aside s f t j _ (empty t (omega arith) (zt (omega arith)))) none)))
+          (also (λ r. link-like s f (x / clusterSize s) _ (omega (arith, iM)) r) (link-aside s f snd i _ li hi) none)
+          (off-table s f snd i li hi j t c 1 1 _ _ _ _ (omega arith) l (unused t (omega arith) (zt (omega arith))) (unused c l (zc l)))
+          (table-run (geo s) (code s) (geo-ok s f) m s k i j o d li lj inC sm t c (omega arith) l (omega arith) (zt (omega arith)) (zc l) hi tz))
 
       fine-slot : (a e : ℕ) → Own s f (x / clusterSize s) a e → Fine (write x d) (writeSlot s a e o d)
       unfolding writeSlot zeroMark
@@ -489,12 +591,12 @@ module _ (s : List ℕ) (f : Facts s) where
           (λ z. fine-new a (freeFrom s 0) (h .place-is) (h .table) (dat-zero s f 0 _ a e h (eqb-true _ _ z)) (w .lone) (λ l. free-is 0 l .1))
           (λ z. let dn = dat-some-own s f 0 _ a e h (eqb-false _ _ z) in
           if-elim (Fine (write x d)) (eqb (e % 2) 1) _ _
-          (λ b. fine-w _ _
-          (like-append (subst (λ (bs : List ℕ). Like (clusterSize s) (fillU (place e) (cluster (clusterSize s) o d)) (fill (dat (geo s) (code s) m i j) 0 bs)) (cluster-around (clusterSize s) o d)
-          (like-fill (clusterSize s) (place e) (dat (geo s) (code s) m i j) 0 _ (sym (dat-place s f 0 _ a e h) ∙ sym (add-zero _)) dn))
-          (also (λ t. entry-like s f a (tab (geo s) (code s) m i) j _ _ (h .place-is) (ap newEntry (sym (dat-place s f 0 _ a e h))) t) (entry-aside s f _ j _ (h .table)) none))
+          (λ b. fine-w _ _ _ _ _ (halves-entry _ a _)
+          (like-cluster (clusterSize s) (place e) (dat (geo s) (code s) m i j) o d (sym (dat-place s f 0 _ a e h)) inC dn)
+          (also (λ t. entry-like s f a (tab (geo s) (code s) m i) j _ _ (h .place-is) lj (ap newEntry (sym (dat-place s f 0 _ a e h))) t) (entry-aside s f _ j _ (h .table)) none)
+          (off-slot s f snd i li j _ _ lj (h .table) (w .lone))
           (marked-run (geo s) (code s) (geo-ok s f) m s k i j o d li lj inC sm dn (w .lone) (w .lone-data dn) (λ y. omega (arith, eqb-true (e % 2) 1 b, flag, y))))
-          (λ b. fine-place _ (fill-quiet (place e + o) d) (like-fill (clusterSize s) (place e + o) (dat (geo s) (code s) m i j) o d (ap (λ (y : ℕ). y + o) (sym (dat-place s f 0 _ a e h))) dn) dn (w .lone-data dn)
+          (λ b. fine-place _ (fill-quiet (place e + o) d) (fill-plain (place e + o) d) (like-fill (clusterSize s) (place e + o) (dat (geo s) (code s) m i j) o d (ap (λ (y : ℕ). y + o) (sym (dat-place s f 0 _ a e h))) inC dn) dn (w .lone-data dn)
           (sym flag ∙ even (eqb-false _ _ b))))
         where
           h : Slot s f 0 (x / clusterSize s) a e
@@ -520,11 +622,11 @@ module _ (s : List ℕ) (f : Facts s) where
     unfolding Exact
     exact-write x d = tt
 
-    fine-write : judge s ≡ 0 → (x : ℕ) (d : List ℕ) → Bytes d → Fine (write x d) (writePlan s x d)
+    sure-write : judge s ≡ 0 → (x : ℕ) (d : List ℕ) → Bytes d → Sure (write x d) (writePlan s x d)
     unfolding writePlan judged
-    fine-write e x d sm =
+    sure-write e x d sm =
         rw e
-        (fine-clearing (write x d) _
+        (sure-clearing (write x d) _
         (if-elim (Fine (write x d)) (outside s 0 x (length d) || ltb (clusterSize s - x % clusterSize s) (length d)) _ _ (λ b. fine-refused (write x d) 11)
         (λ b. let p = or-false (outside s 0 x (length d)) _ b in
         let fits : x % clusterSize s + length d ≤ clusterSize s = omega (arith, ltb-false (clusterSize s - x % clusterSize s) (length d) (p .1), mod-lt x cp) in
@@ -534,16 +636,15 @@ module _ (s : List ℕ) (f : Facts s) where
         fine-way x d sm w (eqb-false _ _ z) fits (ownWay s (x / clusterSize s)) (own-way s f snd (x / clusterSize s) (in-l1 x (omega (arith, eqb-false (length d) 0 z))))))))
 
     -- ---- discard
-    fine-z : (c : ℕ) → c / perTable s < rootSize s 0 → (us : List UnitStore) (vs : List Store) → Like (clusterSize s) us vs
-        → Run (clusterSize s) (MidZ (geo s) (code s) (geo-ok s f) m (nr 0 (c / perTable s)) (c % perTable s) s) vs s (EndZ (geo s) (code s) (geo-ok s f) m (nr 0 (c / perTable s)) (c % perTable s) s)
-        → Fine (discard c) (units us)
-    unfolding Fine Exact
-    fine-z c lc us vs lk q =
-        let r = like-run (MidZ (geo s) (code s) (geo-ok s f) m (nr 0 (c / perTable s)) (c % perTable s) s) (EndZ (geo s) (code s) (geo-ok s f) m (nr 0 (c / perTable s)) (c % perTable s) s) s lk q in (
-          (λ a cs. (r .0 a cs .0, strong (storesCount us) (diskSize s) (seen s) (finished (clusterSize s) (discard c) (seen s)) (seen (applyAll (roughly us a cs) s)) (choose _ (r .0 a cs .1)), shots _ (r .0 a cs .1))),
-          (r .1 .0, (zeroed-rd _ c (r .1 .1), tt), zeroed-shots _ _ _ cM (r .1 .1)),
-          like-clear lk,
-        )
+    fine-z : (c : ℕ) → c / perTable s < rootSize s 0 → (ls us ws : List UnitStore) (vs xs : List Store) → halves ls ≡ us ∷ ws ∷ [] → Like (clusterSize s) us vs → Like (clusterSize s) ws xs → Off vs xs
+        → Epoch (clusterSize s) (MidZ (geo s) (code s) (geo-ok s f) m (nr 0 (c / perTable s)) (c % perTable s) s) vs s
+        (λ t. Epoch (clusterSize s) (MidZ (geo s) (code s) (geo-ok s f) m (nr 0 (c / perTable s)) (c % perTable s) s) xs t (EndZ (geo s) (code s) (geo-ok s f) m (nr 0 (c / perTable s)) (c % perTable s) s))
+        → Fine (discard c) (units ls)
+    unfolding Exact
+    fine-z c lc ls us ws vs xs e lk lk′ off =
+        fine-by (discard c) ls us ws vs xs (MidZ (geo s) (code s) (geo-ok s f) m (nr 0 (c / perTable s)) (c % perTable s) s) (EndZ (geo s) (code s) (geo-ok s f) m (nr 0 (c / perTable s)) (c % perTable s) s) e lk lk′ off
+        (λ t h. (h .0, strong (storesCount ls) (diskSize s) (seen s) (finished (clusterSize s) (discard c) (seen s)) (seen t) (choose t (h .1)), shots t (h .1)))
+        (λ t h. (h .0, (zeroed-rd t c (h .1), tt), zeroed-shots t _ _ cM (h .1)))
       where
         cM : nr 0 (c / perTable s) < mostL1
         cM = omega (arith, lc, root-few s f 0 first-root)
@@ -569,15 +670,18 @@ module _ (s : List ℕ) (f : Facts s) where
         tt
 
     fine-drop : (c : ℕ) → c / perTable s < rootSize s 0 → (a e : ℕ) → Own s f c a e → Fine (discard c) (discardSlot s a e)
-    unfolding discardSlot
+    unfolding discardSlot setCount
     fine-drop c lc a e w =
         if-elim (Fine (discard c)) (eqb e 0) _ _ (λ z. fine-absent c (dat-zero s f 0 c a e h (zero-place e (eqb-true _ _ z))))
         (λ z. if-elim (Fine (discard c)) (eqb (place e) 0) _ _
-        (λ p. fine-z c lc _ _ (also (λ t. entry-like s f a (tab (geo s) (code s) m (nr 0 (c / perTable s))) (c % perTable s) _ _ (h .place-is) refl t) (entry-aside s f _ (c % perTable s) _ (h .table)) none)
-        (unmark-run (geo s) (code s) (geo-ok s f) m s k (nr 0 (c / perTable s)) (c % perTable s) (nr-l1 _ lc) (mod-lt c ep) (h .table) (dat-zero s f 0 c a e h (eqb-true _ _ p)) (w .lone)))
+        (λ p. fine-z c lc _ _ _ _ _ (halves-entry [] a 0) none (also (λ t. entry-like s f a (tab (geo s) (code s) m (nr 0 (c / perTable s))) (c % perTable s) _ _ (h .place-is) (mod-lt c ep) refl t) (entry-aside s f _ (c % perTable s) _ (h .table)) none)
+        (eachAlso eachNone eachNone)
+        (epoch-late C (MidZ (geo s) (code s) (geo-ok s f) m (nr 0 (c / perTable s)) (c % perTable s) s) _ s (EndZ (geo s) (code s) (geo-ok s f) m (nr 0 (c / perTable s)) (c % perTable s) s)
+        (unmark-run (geo s) (code s) (geo-ok s f) m s k (nr 0 (c / perTable s)) (c % perTable s) (nr-l1 _ lc) (mod-lt c ep) (h .table) (dat-zero s f 0 c a e h (eqb-true _ _ p)) (w .lone))))
         (λ p. if-elim (Fine (discard c)) (eqb (countOf s (place e / clusterSize s)) 0) _ _ (λ n. fine-refused (discard c) 16)
-        (λ n. fine-z c lc _ _ (also (λ t. entry-like s f a (tab (geo s) (code s) m (nr 0 (c / perTable s))) (c % perTable s) _ _ (h .place-is) refl t) (entry-aside s f _ (c % perTable s) _ (h .table))
-        (also (λ t. freed t) (count-aside s f snd _ _ inN) none))
+        (λ n. fine-z c lc _ _ _ _ _ (halves-drop a 0 _ _ _) (also (λ t. entry-like s f a (tab (geo s) (code s) m (nr 0 (c / perTable s))) (c % perTable s) _ _ (h .place-is) (mod-lt c ep) refl t) (entry-aside s f _ (c % perTable s) _ (h .table)) none)
+        (also (λ t. freed t) (count-aside s f snd _ _ inN) none)
+        (off-drop s f snd (nr 0 (c / perTable s)) (nr-l1 _ lc) (c % perTable s) _ _ 0 inN (h .table) (w .lone))
         (discard-run (geo s) (code s) (geo-ok s f) m s k (nr 0 (c / perTable s)) (c % perTable s) (nr-l1 _ lc) (mod-lt c ep) (dat-some-own s f 0 c a e h (eqb-false _ _ p)) (w .lone) (w .lone-data (dat-some-own s f 0 c a e h (eqb-false _ _ p)))))))
       where
         h : Slot s f 0 c a e
@@ -609,11 +713,11 @@ module _ (s : List ℕ) (f : Facts s) where
     fine-discard-way c l noTable h = fine-absent c (dat-none (geo s) (code s) m (nr 0 (c / perTable s)) (c % perTable s) h)
     fine-discard-way c l (slot a e) h = fine-drop c l a e h
 
-    fine-discard : judge s ≡ 0 → (c : ℕ) → Fine (discard c) (discardPlan s c)
+    sure-discard : judge s ≡ 0 → (c : ℕ) → Sure (discard c) (discardPlan s c)
     unfolding discardPlan judged
-    fine-discard e c =
+    sure-discard e c =
         rw e
-        (fine-clearing (discard c) _
+        (sure-clearing (discard c) _
         (if-elim (Fine (discard c)) (leb (diskSize s) (c * clusterSize s)) _ _ (λ b. fine-refused (discard c) 11)
         (λ b. fine-discard-way c (inL (leb-false _ _ b)) (ownWay s c) (own-way s f snd c (inL (leb-false _ _ b))))))
       where
@@ -622,15 +726,14 @@ module _ (s : List ℕ) (f : Facts s) where
 
     -- ---- repair
     fine-list : (n : ℕ) → Fine (repair n) (units (repairUnits s (figuresOf s) 0 (clusters s)))
-    unfolding Fine Exact finished
+    unfolding Exact finished
     fine-list n =
         let us = repairUnits s (figuresOf s) 0 (clusters s) in
-        let lk = repair-like s f snd (clusters s) 0 (omega arith) in
-        let r = like-run (MidR (geo s) (code s) (geo-ok s f) m s k) (Repaired (geo s) (code s) (geo-ok s f) m s k) s lk (repair-run (geo s) (code s) (geo-ok s f) m s k) in (
-          (λ a cs. (r .0 a cs .0, strong (storesCount us) (diskSize s) (seen s) (finished (clusterSize s) (repair n) (seen s)) (seen (applyAll (roughly us a cs) s)) (inl (same-rd s _ (r .0 a cs .1))), same-shots _ (r .0 a cs .1))),
-          (r .1 .still .fine, (same-rd s _ (r .1 .still .reads), r .1 .exact), same-shots _ (r .1 .still .reads)),
-          like-clear lk,
-        )
+        fine-by (repair n) us us [] _ [] (MidR (geo s) (code s) (geo-ok s f) m s k) (Repaired (geo s) (code s) (geo-ok s f) m s k) (halves-none us (repair-plain s (figuresOf s) 0 (clusters s)))
+        (repair-like s f snd (clusters s) 0 (omega arith)) none eachNone
+        (λ t h. (h .0, strong (storesCount us) (diskSize s) (seen s) (finished (clusterSize s) (repair n) (seen s)) (seen t) (inl (same-rd s t (h .1))), same-shots t (h .1)))
+        (λ t h. (h .still .fine, (same-rd s t (h .still .reads), h .exact), same-shots t (h .still .reads)))
+        (epoch-only (clusterSize s) (MidR (geo s) (code s) (geo-ok s f) m s k) _ s (Repaired (geo s) (code s) (geo-ok s f) m s k) (repair-run (geo s) (code s) (geo-ok s f) m s k))
 
     fine-verdict : (n : ℕ) (v : Verdict) → verdict s ≡ v → Fine (repair n) (verdictPlan s v)
     unfolding verdictPlan finished Exact SameDisk
@@ -645,15 +748,15 @@ module _ (s : List ℕ) (f : Facts s) where
     fine-verdict n (Short c) q = fine-refused (repair n) 17
     fine-verdict n (NotChecked c) q = fine-refused (repair n) c
 
-    fine-repair : judge s ≡ 0 → (n : ℕ) → Fine (repair n) (repairPlan s n)
+    sure-repair : judge s ≡ 0 → (n : ℕ) → Sure (repair n) (repairPlan s n)
     unfolding repairPlan judged
-    fine-repair e n =
+    sure-repair e n =
         rw e
-        (fine-clearing (repair n) _
+        (sure-clearing (repair n) _
         (if-elim (Fine (repair n)) (ltb n (2 * clusters s)) _ _ (λ b. fine-refused (repair n) 15) (λ b. fine-verdict n (verdict s) refl)))
 
-    pub plan-fine : judge s ≡ 0 → (r : Request) → BytesOf r → Fine r (planOf s r)
+    pub plan-sure : judge s ≡ 0 → (r : Request) → BytesOf r → Sure r (planOf s r)
     unfolding BytesOf planOf
-    plan-fine e (write x d) sm = fine-write e x d sm
-    plan-fine e (discard c) sm = fine-discard e c
-    plan-fine e (repair n) sm = fine-repair e n
+    plan-sure e (write x d) sm = sure-write e x d sm
+    plan-sure e (discard c) sm = sure-discard e c
+    plan-sure e (repair n) sm = sure-repair e n

@@ -1,4 +1,4 @@
--- Demand 3, for rough cuts and so for smooth ones: the theorem about every series of calls on every image that is sound or leaking. Assumes nothing.
+-- Demand 3, for a drive that keeps no order between two flushes, and so for rough cuts and smooth ones: the theorem about every series of calls on every image that is sound or leaking. Assumes nothing.
 use Prim.Native.Nat.{ℕ, zero, suc, _+_, _-_, _*_, _/_, _%_, _≤_, _<_}
 use native.Mathlib.Nat.{le-refl, mod-lt}
 use native.Mathlib.Decide.{decLt}
@@ -18,7 +18,7 @@ use Rattle.qcow2_spec.specs.Header.{clusterSize, clusters, diskSize, per
 use Rattle.qcow2_spec.specs.Counts.{countOf}
 use Rattle.qcow2_spec.specs.Guest.{guestByte, reach, outside, readInto}
 use Rattle.units.specs.Plan.{Plan, refused, units, planUnits, ended, outcome}
-use Rattle.units.specs.Units.{applyAll}
+use Rattle.units.specs.Units.{UnitStore, applyAll}
 use Rattle.tally.specs.Tally.{occurrences}
 use Rattle.qcow2_spec.specs.References.{references}
 use Rattle.qcow2_spec.specs.Check.{verdict, check}
@@ -27,16 +27,18 @@ use Rattle.units.specs.declared.Outcome.the-variants.{Finished, Stopped, Refuse
 use Rattle.qcow2_spec.specs.declared.Verdict.the-variants.{Refused as NotChecked}
 use Rattle.units.specs.Plan.{storesCount}
 use Rattle.qcow2_spec.specs.Disk.{Request, write, discard, repair, planOf, finished, SameDisk, Fed}
-use Rattle.qcow2_spec.specs.Rough.{roughly, afterRough}
-use Rattle.qcow2_spec.specs.Series.{Bytes, Healthy, Agrees, Mended, MendedBy, Call, BytesOf, AllBytes, left, leftRough, ends, Step, Holds, RoughHolds, Demand3, RoughDemand3}
+use Rattle.qcow2_spec.specs.Flush.{epochs, loosely, afterLoose}
+use Rattle.qcow2_spec.specs.Series.{Bytes, Healthy, Agrees, Mended, MendedBy, Call, BytesOf, AllBytes, left, leftRough, leftLoose, ends, Step, ClearedFirst, Holds, RoughHolds, LooseHolds, Demand3, RoughDemand3, LooseDemand3, SectorsLoose}
 use Rattle.choice.proofs.Tests.{if-no, if-elim, false-or, two-ways}
 use Rattle.qcow2_spec.proofs.Facts.{Facts, facts, c-pos, e-pos, n-whole, root-few, root-count}
 use Rattle.qcow2_spec.proofs.Geo.{nr, geo, code}
 use Rattle.qcow2_spec.proofs.Kept.{cnt-own, same-judge, same-geo, same-code, same-disk, same-size, same-perTable, same-clusters, same-roots, same-rootSize}
 use Rattle.qcow2_spec.proofs.Verdicts.{refs-own, healthy-sound, sound-healthy, exact-sound}
 use Rattle.qcow2_spec.proofs.Ways.{rd, guest-rd, in-root, inside, accepted, read-whole, read-outside}
-use Rattle.qcow2_spec.proofs.Rough.{roughly-nil, roughly-all, smooth-cut}
-use Rattle.qcow2_spec.proofs.Plans.{fed-same, Shots, Exact, Fine, plan-fine}
+use Rattle.qcow2_spec.proofs.Rough.{smooth-cut}
+use Rattle.qcow2_spec.proofs.Flush.{held-cut, held-end, epochs-whole, loosely-all, rough-loose}
+use Rattle.qcow2_spec.proofs.Plans.{Mid, End, fed-same, Shots, Exact, Sure, untouched, sure-in, plan-sure}
+use Rattle.qcow2_spec.proofs.Sectors.{drive-loose}
 
 -- an image of the series: accepted, sound or leaking, of the first image's shape, and with its snapshots
 record Good (start s : List ℕ) : Type 0 where
@@ -205,13 +207,23 @@ module _ (start s : List ℕ) (k : Good start s) where
     shots : Shots s (fs start s k) t
     exact : ExactBy s (fs start s k) r o t
 
-  result : (r : Request) (a : ℕ) (bytes : List Bool) (p : Plan) → Fine s (fs start s k) r p → Result r (outcome p a) (storesCount (planUnits p)) (afterRough p a bytes s)
-  unfolding outcome ended afterRough planUnits applyAll Fine Fed ExactBy SameDisk
-  result r a bytes (refused n) h = rw (roughly-nil a bytes) (record { kept = own start s k; fed = λ y l. refl; shots = λ u b x l n p q. refl; exact = tt })
-  result r a bytes (units us) h =
-      if-elim (λ (o : Outcome). Result r o (storesCount us) (applyAll (roughly us a bytes) s)) (leb (length us) a) (Finished (length us)) (Stopped a)
-      (λ e. rw (roughly-all us a bytes (leb-true _ _ e)) (record { kept = h .1 .0; fed = h .1 .1 .0; shots = h .1 .2; exact = h .1 .1 .1 }))
-      (λ e. record { kept = h .0 a bytes .0; fed = h .0 a bytes .1 a; shots = h .0 a bytes .2; exact = tt })
+  -- what a cut leaves, and what is left once all is stored
+  result : (r : Request) (a : ℕ) (cs : List Bool) (p : Plan) → Sure s (fs start s k) r p → Result r (outcome p a) (storesCount (planUnits p)) (afterLoose p a cs s)
+  unfolding outcome ended afterLoose planUnits applyAll Sure Fed ExactBy SameDisk
+  result r a cs (refused n) h = rw (loosely-all (epochs s []) a cs (rw (epochs-whole s []) (omega arith)), epochs-whole s []) (record { kept = own start s k; fed = λ y l. refl; shots = λ u b x l n p q. refl; exact = tt })
+  result r a cs (units us) h =
+      let M : List ℕ → Type 0 = Mid s (fs start s k) r (storesCount us) in
+      let Q : List ℕ → Type 0 = End s (fs start s k) r in
+      if-elim (λ (o : Outcome). Result r o (storesCount us) (applyAll (loosely (epochs s us) a cs) s)) (leb (length us) a) (Finished (length us)) (Stopped a)
+      (λ e. let q : Q (applyAll us s) = rw (epochs-whole s us) at (held-end M Q (epochs s us) s (h .0)) in
+      rw (loosely-all (epochs s us) a cs (rw (epochs-whole s us) (leb-true _ _ e)), epochs-whole s us) (record { kept = q .0; fed = q .1 .0; shots = q .2; exact = q .1 .1 }))
+      (λ e. let q = held-cut M Q (epochs s us) s (untouched s (fs start s k) (own start s k) r (storesCount us)) (h .0) a cs in
+      record { kept = q .0; fed = q .1 a; shots = q .2; exact = tt })
+
+  first-cleared : (r : Request) (a : ℕ) (cs : List Bool) (p : Plan) → Sure s (fs start s k) r p → ClearedFirst s (afterLoose p a cs s)
+  unfolding afterLoose planUnits applyAll Sure ClearedFirst
+  first-cleared r a cs (refused n) h = λ b. inl (ap (λ (us : List UnitStore). applyAll us s) (loosely-all (epochs s []) a cs (rw (epochs-whole s []) (omega arith)) ∙ epochs-whole s []))
+  first-cleared r a cs (units us) h = held-cut (ClearedFirst s) (λ (t : List ℕ). Unit {0}) (epochs s us) s (λ b. inl refl) (h .1) a cs
 
   by-repair : (r : Request) (o : Outcome) (t : List ℕ) → Ok (geo s) (code s) (mem (clusterSize s) s) t → Shots s (fs start s k) t → ExactBy s (fs start s k) r o t → MendedBy r o start t
   unfolding MendedBy ExactBy Exact
@@ -221,13 +233,14 @@ module _ (start s : List ℕ) (k : Good start s) where
   by-repair (repair n) (Stopped u) t q sh h = tt
   by-repair (repair n) (Finished u) t q sh h = mended start t (next-good start s k t q sh) (next-exact start s k t q h)
 
-  step : Good start start → (c : Call) (bytes : List Bool) → BytesOf (c .asks)
-      → Good start (leftRough s c bytes) × Step start s (guestByte s 0) c (leftRough s c bytes) (guestByte (leftRough s c bytes) 0)
-  unfolding leftRough ends
-  step b c bytes sm =
+  step : Good start start → (c : Call) (picks : List Bool) → BytesOf (c .asks)
+      → Good start (leftLoose s c picks) × Step start s (guestByte s 0) c (leftLoose s c picks) (guestByte (leftLoose s c picks) 0) × ClearedFirst s (leftLoose s c picks)
+  unfolding leftLoose ends
+  step b c picks sm =
       let p = planOf s (c .asks) in
-      let t = afterRough p (c .allowance) bytes s in
-      let w : Result (c .asks) (outcome p (c .allowance)) (storesCount (planUnits p)) t = result (c .asks) (c .allowance) bytes p (plan-fine s (fs start s k) (own start s k) (k .judged) (c .asks) sm) in
+      let t = afterLoose p (c .allowance) picks s in
+      let sure = plan-sure s (fs start s k) (own start s k) (k .judged) (c .asks) sm in
+      let w : Result (c .asks) (outcome p (c .allowance)) (storesCount (planUnits p)) t = result (c .asks) (c .allowance) picks p sure in
       let z : SameDisk (diskSize s) (rd (geo s) (code s) s 0) (guestByte s 0) = next-seen start s k s (own start s k) in (
         next-good start s k t (w .kept) (w .shots),
         record {
@@ -236,14 +249,27 @@ module _ (start s : List ℕ) (k : Good start s) where
           agrees = agrees start t (next-good start s k t (w .kept) (w .shots)) b;
           mended = by-repair (c .asks) _ t (w .kept) (w .shots) (w .exact);
         },
+        first-cleared (c .asks) (c .allowance) picks p sure,
       )
 
-all : (start s : List ℕ) → Good start start → Good start s → (cs : List Call) → AllBytes cs → RoughHolds start s (guestByte s 0) cs
-unfolding RoughHolds AllBytes
+all : (start s : List ℕ) → Good start start → Good start s → (cs : List Call) → AllBytes cs → LooseHolds start s (guestByte s 0) cs
+unfolding LooseHolds AllBytes
 all start s b k [] sm = tt
-all start s b k (c ∷ cs) sm = λ bytes.
-    let r = step start s k b c bytes (sm .0) in
-    (guestByte (leftRough s c bytes) 0, r .1, all start (leftRough s c bytes) b (r .0) cs (sm .1))
+all start s b k (c ∷ cs) sm = λ picks.
+    let r = step start s k b c picks (sm .0) in
+    (guestByte (leftLoose s c picks) 0, r .1, r .2, all start (leftLoose s c picks) b (r .0) cs (sm .1))
+
+-- a series of rough cuts is one of cuts with no order
+rough : (start s : List ℕ) (disk : ℕ → ℕ) (cs : List Call) → LooseHolds start s disk cs → RoughHolds start s disk cs
+unfolding LooseHolds RoughHolds leftLoose leftRough
+rough start s disk [] h = tt
+rough start s disk (c ∷ cs) h = λ bytes.
+    let e = rough-loose s (c .allowance) bytes (c .asks) in
+    let r = h (e .0) in (
+      r .0,
+      subst (λ (t : List ℕ). Step start s disk c t (r .0)) (sym (e .1)) (r .1),
+      rough start (leftRough s c bytes) (r .0) cs (subst (λ (t : List ℕ). LooseHolds start t (r .0) cs) (sym (e .1)) (r .3)),
+    )
 
 -- a series of smooth cuts is one of rough cuts, no byte chosen at any of them
 smooth : (start s : List ℕ) (disk : ℕ → ℕ) (cs : List Call) → RoughHolds start s disk cs → Holds start s disk cs
@@ -263,11 +289,27 @@ healthy-check s h = go (judge s) h
     go (suc j) h = absurd h
     go zero h = (refl, subst Healthy (if-no (ltb (2 * clusters s) (2 * clusters s)) (NotChecked 15) (verdict s) (le-ltb (2 * clusters s) (2 * clusters s) (le-refl (2 * clusters s)))) h)
 
-pub rough3 : RoughDemand3
-rough3 s by h calls sm =
+start-good : (s : List ℕ) → Bytes s → Healthy (check s (2 * clusters s)) → Good s s
+start-good s by h =
     let e = healthy-check s h in
-    let k : Good s s = record { judged = e .0; bytes = by; sound = healthy-sound s (facts s (e .0)) by (e .1); one-size = refl; one-C = refl; one-N = refl; one-length = refl; one-roots = refl; one-reach = λ t l. refl; shots = λ n y l h. refl } in
-    (agrees s s k k, all s s k k calls sm)
+    record { judged = e .0; bytes = by; sound = healthy-sound s (facts s (e .0)) by (e .1); one-size = refl; one-C = refl; one-N = refl; one-length = refl; one-roots = refl; one-reach = λ t l. refl; shots = λ n y l h. refl }
+
+pub loose3 : LooseDemand3
+loose3 s by h calls sm = let k = start-good s by h in (agrees s s k k, all s s k k calls sm)
+
+-- ---- one call on such an image
+pub start-sure : (s : List ℕ) → Bytes s → Healthy (check s (2 * clusters s)) → (r : Request) → BytesOf r → (f : Facts s) × Sure s f r (planOf s r)
+start-sure s by h r sm = let k = start-good s by h in (fs s s k, plan-sure s (fs s s k) (own s s k) (k .judged) r sm)
+
+-- sectors
+pub sectors-loose : SectorsLoose
+unfolding leftLoose afterLoose
+sectors-loose s by h r sm e stored =
+    let k = start-sure s by h r sm in
+    drive-loose (epochs s (planUnits (planOf s r))) s (sure-in s (k .0) r (planOf s r) (k .1)) e stored
+
+pub rough3 : RoughDemand3
+rough3 s by h calls sm = let r = loose3 s by h calls sm in (r .0, rough s s (guestByte s 0) calls (r .1))
 
 pub demand3 : Demand3
 demand3 s by h calls sm = let r = rough3 s by h calls sm in (r .0, smooth s s (guestByte s 0) calls (r .1))

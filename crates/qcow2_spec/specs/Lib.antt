@@ -10,6 +10,8 @@ pub mod Store
 pub mod Check
 pub mod Disk
 pub mod Rough
+pub mod Flush
+pub mod Steps
 pub mod Series
 pub mod Opened
 pub mod Ready

@@ -1,18 +1,19 @@
--- Demand 3: what holds of every series of calls. Paper 01, "The plain disk and the series"; paper 02, T-11 and, for rough cuts, T-09.
--- Both are proved in proofs/Series.antt.
+-- Demand 3: what holds of every series of calls. Paper 01, "The plain disk and the series"; paper 02, T-11 and, for rough cuts, T-09; and on a
+-- drive that keeps no order. All three are proved in proofs/Series.antt.
 -- Assumes nothing.
 use Prim.Native.Nat.{ℕ, suc, _+_, _*_, _≤_, _<_}
 use mathlib.Core.Path.{_≡_}
-use mathlib.Core.Logic.{_↔_}
+use mathlib.Core.Logic.{_↔_, _⊎_, _≢_}
 use mathlib.Core.Bool.{Bool}
 use mathlib.Core.List.{List, [], _∷_}
-use lib.ListN.{length, getD}
+use lib.ListN.{length, getD, take}
 use Rattle.choice.specs.Pick.{each}
+use Rattle.units.specs.Units.{applyAll}
 use Rattle.units.specs.Plan.{planUnits, storesCount, outcome, after}
 use Rattle.units.specs.declared.Outcome.{Outcome}
 use Rattle.units.specs.declared.Outcome.the-variants.{Finished, Stopped, Refused}
 use Rattle.tally.specs.Tally.{occurrences}
-use Rattle.qcow2_spec.specs.Header.{clusterSize, clusters, diskSize, roots}
+use Rattle.qcow2_spec.specs.Header.{autoclear, clusterSize, clusters, diskSize, roots}
 use Rattle.qcow2_spec.specs.Counts.{countOf}
 use Rattle.qcow2_spec.specs.Guest.{guestByte, reach, readNumber, readInto}
 use Rattle.qcow2_spec.specs.References.{references}
@@ -21,6 +22,8 @@ use Rattle.qcow2_spec.specs.declared.Verdict.{Verdict}
 use Rattle.qcow2_spec.specs.declared.Verdict.the-variants.{Sound, Leaks, BadL1, BadL2, Shared, Short, MarkL1, MarkL2, Refused as NotChecked}
 use Rattle.qcow2_spec.specs.Disk.{Request, write, discard, repair, planOf, finished, Fed}
 use Rattle.qcow2_spec.specs.Rough.{afterRough}
+use Rattle.qcow2_spec.specs.Flush.{epochs, joined, afterLoose, driveCut}
+use Rattle.qcow2_spec.specs.Steps.{extentsIn, brought}
 
 -- sound or leaking
 unfoldable pub Healthy : Verdict → Type 0
@@ -72,6 +75,10 @@ left s c = after (planOf s (c .asks)) (c .allowance) s
 unfoldable pub leftRough : List ℕ → Call → List Bool → List ℕ
 leftRough s c bytes = afterRough (planOf s (c .asks)) (c .allowance) bytes s
 
+-- the same on a drive that keeps no order between two flushes: of the units up to the next flush those chosen are stored too
+unfoldable pub leftLoose : List ℕ → Call → List Bool → List ℕ
+leftLoose s c picks = afterLoose (planOf s (c .asks)) (c .allowance) picks s
+
 -- how a call on s ends
 unfoldable pub ends : List ℕ → Call → Outcome
 ends s c = outcome (planOf s (c .asks)) (c .allowance)
@@ -91,6 +98,15 @@ Holds start s disk (c ∷ cs) = (now : ℕ → ℕ) × Step start s disk c (left
 unfoldable pub RoughHolds : (start s : List ℕ) (disk : ℕ → ℕ) → List Call → Type 0
 RoughHolds start s disk [] = Unit {0}
 RoughHolds start s disk (c ∷ cs) = (bytes : List Bool) → (now : ℕ → ℕ) × Step start s disk c (leftRough s c bytes) now × RoughHolds start (leftRough s c bytes) now cs
+
+-- a call on s has left t: nothing is stored while an autoclear bit stands
+unfoldable pub ClearedFirst : (s t : List ℕ) → Type 0
+ClearedFirst s t = autoclear s ≢ 0 → (t ≡ s) ⊎ (autoclear t ≡ 0)
+
+-- the same for cuts with no order, whichever units the drive has stored at each
+unfoldable pub LooseHolds : (start s : List ℕ) (disk : ℕ → ℕ) → List Call → Type 0
+LooseHolds start s disk [] = Unit {0}
+LooseHolds start s disk (c ∷ cs) = (picks : List Bool) → (now : ℕ → ℕ) × Step start s disk c (leftLoose s c picks) now × ClearedFirst s (leftLoose s c picks) × LooseHolds start (leftLoose s c picks) now cs
 
 -- every number of the list is a byte
 abbrev pub Bytes : List ℕ → Type 0
@@ -116,3 +132,22 @@ abbrev pub RoughDemand3 : Type 0
 RoughDemand3 =
     (s : List ℕ) → Bytes s → Healthy (check s (2 * clusters s)) → (calls : List Call) → AllBytes calls
     → Agrees s s (guestByte s 0) × RoughHolds s s (guestByte s 0) calls
+
+-- the same for every series of calls on a drive that keeps no order between two flushes
+abbrev pub LooseDemand3 : Type 0
+LooseDemand3 =
+    (s : List ℕ) → Bytes s → Healthy (check s (2 * clusters s)) → (calls : List Call) → AllBytes calls
+    → Agrees s s (guestByte s 0) × LooseHolds s s (guestByte s 0) calls
+
+-- whatever sectors of an epoch a drive has stored, what it holds is what a cut with no order leaves: no unit of a list lies over a sector's end
+abbrev pub SectorsLoose : Type 0
+SectorsLoose =
+    (s : List ℕ) → Bytes s → Healthy (check s (2 * clusters s)) → (r : Request) → BytesOf r → (e : ℕ) (stored : ℕ → Bool)
+    → (a : ℕ) × (picks : List Bool) × (driveCut (epochs s (planUnits (planOf s r))) e stored s ≡ leftLoose s (record { asks = r; allowance = a }) picks)
+
+-- a store may bring the finished image's bytes to its file, epoch by epoch: no byte is stored in two epochs
+abbrev pub ExtentsBrought : Type 0
+ExtentsBrought =
+    (s : List ℕ) → Bytes s → Healthy (check s (2 * clusters s)) → (r : Request) → BytesOf r → (e : ℕ)
+    → applyAll (joined (take e (epochs s (planUnits (planOf s r))))) s
+    ≡ brought (extentsIn (take e (epochs s (planUnits (planOf s r))))) s (applyAll (planUnits (planOf s r)) s)

@@ -42,9 +42,9 @@ fn store(image: &mut [u8], g: Geometry, job: Job, src: &[u8], o: usize, allowanc
     requires { ⌜ (Opened g (now image) × JobIn (length (now image)) (2 ^ g .bits) job) × ((o + length (now src) ≤ 2 ^ g .bits) × (0 < length (now src))) ⌝ }
     ensures { λ r. ⌜ Done (planned (clearUnits (now (image .entry)) ++ jobUnits job (2 ^ g .bits) o (now (src .entry)))) allowance (now (image .entry)) r (now (image .exit)) ⌝ }
 {
-    let left = qcow2_put::clearing::clear(image, g, allowance);
+    let left = qcow2_clear::clear(image, g, allowance);
     let r = put_job(image, job, qcow2_counts::bytes_of(g.bits), src, o, left);
-    qcow2_put::clearing::whole_end(r, left, allowance)
+    qcow2_clear::whole_end(r, left, allowance)
 }
 
 // A write of src, which is not empty, from byte o of a guest cluster on, with the way to it.

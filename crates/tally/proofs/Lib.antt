@@ -4,11 +4,8 @@ pub mod Roles
 pub mod Steps
 pub mod Marks
 pub mod Tallies
-pub mod Unpacks
 pub mod States
-pub mod Flags
 pub mod Windows
 pub mod Signs
 pub mod Counting
 pub mod Occurs
-pub mod Shared

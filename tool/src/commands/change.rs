@@ -23,7 +23,12 @@ pub fn open_usable<D: Disk>(image: ImageFile<D>) -> Result<(PathBuf, Ordered<D>)
         let advice = findings::advice(&checked.layout, &image.bytes, checked.verdict);
         return Err(Failure::Damaged { what, json, advice: advice.into() });
     }
-    Ok((image.path, Ordered::new(image.file, checked.layout, image.bytes)))
+    Ok((image.path, ordered(image.file, image.bytes)?))
+}
+
+/// An image that a check has accepted.
+pub fn ordered<D: Disk>(file: D, bytes: Vec<u8>) -> Result<Ordered<D>, Failure> {
+    Ordered::new(file, bytes).map_err(|number| unexpected(0, number.into()))
 }
 
 /// The report, with a word on the autoclear bits if the change cleared them.
@@ -87,7 +92,7 @@ pub fn in_step<D: Disk>(ordered: &Ordered<D>, spent: u64) -> Result<(), Failure>
     }
 }
 
-/// For a disk that failed after these units, or in the kind that follows them.
+/// For a disk that failed after these units, or in the epoch that follows them.
 pub fn broken_off(spent: u64, fault: Fault) -> Failure {
     match fault {
         Fault::Unexpected(units) => unexpected(spent, units),

@@ -2,13 +2,14 @@
 
 use std::ops::Range;
 
+use qcow2_core::Found;
+
 use super::change;
 use crate::autoclear;
 use crate::call::Call;
 use crate::disk::Disk;
-use crate::fields::be64;
+use crate::guest::Runs;
 use crate::image_file::{refused, ImageFile};
-use crate::layout::Layout;
 use crate::report::{self, Failure, Report, DONE, FAILED};
 use crate::sentences::Request;
 
@@ -19,14 +20,17 @@ pub fn run<D: Disk>(
     allowance: u64,
 ) -> Result<Report, Failure> {
     let (path, mut ordered) = change::open_usable(image)?;
-    let (layout, bits) = (ordered.layout, autoclear::bits(ordered.image()));
-    let inside = offset.checked_add(length).is_some_and(|end| end <= layout.size);
+    let (geometry, bits) = (ordered.geometry, autoclear::bits(ordered.image()));
+    let refuse =
+        |image: &[u8], number| refused(&path, image, number, Request::Read { offset, length });
+    let inside = offset.checked_add(length).is_some_and(|end| end <= geometry.size);
     if !inside {
-        return Err(refused(&path, ordered.image(), 11, Request::Read { offset, length }));
+        return Err(refuse(ordered.image(), 11));
     }
-    let clusters = whole_clusters(layout.bits, layout.size, offset, length)
+    are_whole(geometry.cluster_bits, geometry.size, offset, length)
         .map_err(|message| Failure::Other(format!("not changed: {message}")))?;
-    let parts = parts(&layout, ordered.image(), clusters);
+    let parts = parts(ordered.image(), geometry.cluster_bits, offset, length)
+        .map_err(|number| refuse(ordered.image(), number))?;
     let calls = parts.into_iter().flatten().map(|cluster| Call::Discard { cluster });
     let total = change::trial(&mut ordered, calls.clone())?.map_err(|(index, number)| {
         let Some(Call::Discard { cluster }) = calls.clone().nth(index) else {
@@ -50,14 +54,14 @@ pub fn run<D: Disk>(
     Ok(change::noting(report, bits, ordered.image()))
 }
 
-/// The guest clusters of a range inside the disk, or why they are not whole.
-fn whole_clusters(bits: u32, size: u64, offset: u64, length: u64) -> Result<Range<u64>, String> {
+/// Is a range inside the disk one of whole guest clusters, or why not?
+fn are_whole(bits: u32, size: u64, offset: u64, length: u64) -> Result<(), String> {
     let cluster = 1u64 << bits;
     let end = offset + length;
     let first = offset.div_ceil(cluster);
     let last = if end == size { size.div_ceil(cluster) } else { end / cluster };
     if offset.is_multiple_of(cluster) && (end == size || end.is_multiple_of(cluster)) {
-        return Ok(first..last.max(first));
+        return Ok(());
     }
     let whole = if first < last {
         let to = (last * cluster).min(size);
@@ -72,36 +76,54 @@ fn whole_clusters(bits: u32, size: u64, offset: u64, length: u64) -> Result<Rang
     Err(format!("a discard takes whole guest clusters of {cluster} bytes.\n  {whole}."))
 }
 
-/// Without the guest clusters below an L1 entry of 0, where nothing is.
-fn parts(layout: &Layout, image: &[u8], clusters: Range<u64>) -> Vec<Range<u64>> {
-    let per_table = layout.per_table();
-    let (mut parts, mut start) = (Vec::new(), clusters.start);
-    while start < clusters.end {
-        let l1_index = start / per_table;
-        let stop = clusters.end.min((l1_index + 1) * per_table);
-        if be64(image, layout.l1_entry_at(l1_index)) != Some(0) {
-            parts.push(start..stop);
+/// The guest clusters of a range that have to be asked for. Where nothing is
+/// allocated one below each L2 table is enough: all others there get the same
+/// answer, which is that nothing is to be stored, or that a snapshot holds the
+/// table.
+fn parts(image: &[u8], bits: u32, offset: u64, length: u64) -> Result<Vec<Range<u64>>, u32> {
+    let mut parts = Vec::new();
+    for (at, run) in Runs::of(image, offset, length)? {
+        let clusters = at >> bits..(at + run.length).div_ceil(1 << bits);
+        match run.found {
+            Found::Absent => parts.extend(firsts(clusters, 1 << (bits - 3))),
+            _ => parts.push(clusters),
         }
-        start = stop;
     }
-    parts
+    Ok(parts)
+}
+
+/// The first of these clusters and those that an L2 table begins with.
+fn firsts(clusters: Range<u64>, per_table: u64) -> impl Iterator<Item = Range<u64>> {
+    let next = move |at: &u64| Some((at / per_table + 1) * per_table);
+    let starts = std::iter::successors(Some(clusters.start), next);
+    starts.take_while(move |at| *at < clusters.end).map(|at| at..at + 1)
 }
 
 #[cfg(test)]
 mod tests {
-    use super::whole_clusters;
+    use super::*;
 
     #[test]
     fn ranges() {
-        let whole = |offset, length| whole_clusters(9, 10_752 - 100, offset, length);
-        assert_eq!(whole(0, 0), Ok(0..0));
-        assert_eq!(whole(512, 1024), Ok(1..3));
-        assert_eq!(whole(10_240, 412), Ok(20..21));
-        assert_eq!(whole(0, 10_652), Ok(0..21));
+        let whole = |offset, length| are_whole(9, 10_752 - 100, offset, length);
+        assert_eq!(whole(0, 0), Ok(()));
+        assert_eq!(whole(512, 1024), Ok(()));
+        assert_eq!(whole(10_240, 412), Ok(()));
+        assert_eq!(whole(0, 10_652), Ok(()));
         let fault = |offset, length| whole(offset, length).unwrap_err();
         assert!(fault(700, 1000).contains("512 bytes at 1024."));
         assert!(fault(700, 10_652 - 700).contains("9628 bytes at 1024."));
         assert!(fault(0, 100).contains("no whole cluster"));
         assert!(fault(10_241, 411).contains("no whole cluster"));
+    }
+
+    #[test]
+    fn one_of_each_table() {
+        let firsts = |clusters| -> Vec<u64> { firsts(clusters, 64).flatten().collect() };
+        assert_eq!(firsts(0..1), [0]);
+        assert_eq!(firsts(5..64), [5]);
+        assert_eq!(firsts(5..65), [5, 64]);
+        assert_eq!(firsts(64..200), [64, 128, 192]);
+        assert_eq!(firsts(7..7), []);
     }
 }

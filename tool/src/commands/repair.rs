@@ -7,7 +7,6 @@ use super::check::check;
 use crate::autoclear;
 use crate::disk::Disk;
 use crate::image_file::{refused, ImageFile};
-use crate::ordered::Ordered;
 use crate::progress::Progress;
 use crate::report::{self, Failure, Report, DONE, FAILED};
 use crate::sentences::Request;
@@ -21,7 +20,7 @@ pub fn run<D: Disk>(image: ImageFile<D>, allowance: u64, force: bool) -> Result<
     }
     // Damage is left to the core, which has a number for it.
     let path = image.path;
-    let mut ordered = Ordered::new(image.file, checked.layout, image.bytes);
+    let mut ordered = change::ordered(image.file, image.bytes)?;
     let mut progress = Progress::new("repair", 0);
     let mut spent = 0;
     let outcome = ordered.repair(allowance, |done, total| {

@@ -18,11 +18,11 @@ pub fn run<D: Disk>(
     allowance: u64,
 ) -> Result<Report, Failure> {
     let (path, mut ordered) = change::open_usable(image)?;
-    let (layout, bits) = (ordered.layout, autoclear::bits(ordered.image()));
+    let (geometry, bits) = (ordered.geometry, autoclear::bits(ordered.image()));
     let refuse = |image: &[u8], number, length, whole| {
         refused(&path, image, number, Request::Write { offset, length, whole })
     };
-    let Some(room) = layout.size.checked_sub(offset) else {
+    let Some(room) = geometry.size.checked_sub(offset) else {
         return Err(refuse(ordered.image(), 11, 0, true));
     };
     // More bytes than the image has can find no room; they are counted alone.
@@ -37,7 +37,7 @@ pub fn run<D: Disk>(
     if length > data.len() as u64 {
         return Err(refuse(ordered.image(), 14, length, true));
     }
-    let calls = writes(offset, &data, layout.bits);
+    let calls = writes(offset, &data, geometry.cluster_bits);
     let total = change::trial(&mut ordered, calls.clone())?
         .map_err(|(_, number)| refuse(ordered.image(), number, length, true))?;
     let (units, finished) = change::run(&mut ordered, "write", total, allowance, calls)?;

@@ -1,5 +1,6 @@
 //! A drive that forgets, behind a cache.
 
+use std::collections::BTreeMap;
 use std::io;
 use std::path::Path;
 
@@ -20,6 +21,9 @@ pub struct Drive {
     pub epochs: Vec<Stores>,
     pub open: Stores,
     pub left: Option<usize>,
+    /// Flushes that were asked for, and the one among them that is not made.
+    pub flushes: usize,
+    pub deaf: Option<usize>,
 }
 
 impl Drive {
@@ -31,7 +35,7 @@ impl Drive {
     pub fn behind(image: &[u8], open: Stores) -> Drive {
         let mut cache = image.to_vec();
         put(&mut cache, &sectors(&open));
-        Drive { cache, epochs: vec![], open, left: None }
+        Drive { cache, epochs: vec![], open, left: None, flushes: 0, deaf: None }
     }
 
     fn spend(&mut self) -> io::Result<()> {
@@ -65,7 +69,10 @@ impl Disk for Drive {
 
     fn flush(&mut self) -> io::Result<()> {
         self.spend()?;
-        self.epochs.push(std::mem::take(&mut self.open));
+        if self.deaf != Some(self.flushes) {
+            self.epochs.push(std::mem::take(&mut self.open));
+        }
+        self.flushes += 1;
         Ok(())
     }
 }
@@ -110,18 +117,44 @@ pub fn put(image: &mut [u8], pieces: &[(usize, &[u8])]) {
     }
 }
 
-/// States that a cut may leave while this is on its way to the drive.
+/// States that a cut may leave while this is on its way to the drive: with any
+/// sectors forgotten, among them all, none, all but one, and one. Or any stores
+/// of a sector: it may have been on its way between two of them.
 pub fn torn(base: &[u8], stores: &[(usize, Vec<u8>)], random: &mut Random) -> Vec<Vec<u8>> {
     let pieces = sectors(stores);
-    let mut states = Vec::new();
-    for _ in 0..8 {
-        let mut state = base.to_vec();
-        for piece in &pieces {
-            if random.below(2) == 1 {
-                put(&mut state, &[*piece]);
-            }
-        }
-        states.push(state);
+    let sector = |piece: &(usize, &[u8])| piece.0 / SECTOR;
+    let (first, last) = (pieces.first().map(sector), pieces.last().map(sector));
+    let mut choices = vec![vec![false; pieces.len()], vec![true; pieces.len()]];
+    for edge in [first, last] {
+        let only: Vec<bool> = pieces.iter().map(|piece| Some(sector(piece)) == edge).collect();
+        choices.push(only.iter().map(|kept| !kept).collect());
+        choices.push(only);
     }
+    for _ in 0..6 {
+        let mut drawn = BTreeMap::new();
+        let mut kept = |piece| *drawn.entry(sector(piece)).or_insert_with(|| random.below(2) == 1);
+        choices.push(pieces.iter().map(&mut kept).collect());
+        choices.push(pieces.iter().map(|_| random.below(2) == 1).collect());
+    }
+    choices.sort_unstable();
+    choices.dedup();
+    let state = |kept: Vec<bool>| {
+        let mut state = base.to_vec();
+        let pieces = pieces.iter().zip(kept).filter(|(_, kept)| *kept);
+        pieces.for_each(|(piece, _)| put(&mut state, &[*piece]));
+        state
+    };
+    choices.into_iter().map(state).collect()
+}
+
+/// All states that cuts may leave, flush by flush; the last is what the drive
+/// holds in the end.
+pub fn all_torn(image: &[u8], drive: &Drive, random: &mut Random) -> Vec<Vec<u8>> {
+    let (mut states, mut state) = (Vec::new(), image.to_vec());
+    for stores in drive.epochs.iter().chain([&drive.open]) {
+        states.extend(torn(&state, stores, random));
+        put(&mut state, &sectors(stores));
+    }
+    states.push(state);
     states
 }

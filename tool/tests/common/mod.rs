@@ -4,6 +4,7 @@
 pub mod drive;
 pub mod kept;
 pub mod made;
+pub mod promise;
 
 use std::fs;
 use std::io::Write;

@@ -1,7 +1,7 @@
 use borrow.Author.Needs.{needs}
 use mathlib.Core.Path.{sym}
 use denote.Ref.{now}
-use Rattle.packed_narrow.proofs.Filling.{first-filled}
+use Rattle.packed_narrow.proofs.Blanks.{first-filled}
 use Rattle.packed_narrow.proofs.all_blank.Statement.{statement}
 use Rattle.packed_narrow.proofs.all_blank.Tie as tie
 

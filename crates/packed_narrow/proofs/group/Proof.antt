@@ -1,7 +1,7 @@
 use borrow.Author.Needs.{needs}
 use mathlib.Core.Path.{sym, _∙_}
 use denote.Ref.{now}
-use Rattle.packed_narrow.proofs.Filling.{blank-counted}
+use Rattle.packed_narrow.proofs.Blanks.{blank-counted}
 use Rattle.packed_narrow.proofs.group.Statement.{statement}
 use Rattle.packed_narrow.proofs.group.Tie as tie
 

@@ -1,7 +1,7 @@
 use borrow.Author.Needs.{needs}
 use native.Mathlib.Omega.{arith}
 use native.Mathlib.Nat.{sub-zero}
-use Rattle.packed_wide.proofs.Laws.{length-twos}
+use Rattle.packed_twos.proofs.Laws.{length-twos}
 use Rattle.packed_wide.proofs.by_bytes.Statement.{statement}
 use Rattle.packed_wide.proofs.by_bytes.Tie as tie
 

@@ -5,7 +5,7 @@ use mathlib.Core.Path.{_≡_}
 use denote.Ref.{now}
 use Rattle.choice.specs.Pick.{if_then_else_, count}
 use Rattle.packed.specs.Lanes.{lanes, bytesAt}
-use Rattle.packed_narrow.specs.Filled.{filledAt}
+use Rattle.packed_filled.specs.Filled.{filledAt}
 use Rattle.packed_words.proofs.Words.{filled-told}
 use Rattle.packed_words.proofs.Words.{count-more}
 use Rattle.packed_words.proofs.filled32.Statement.{statement}

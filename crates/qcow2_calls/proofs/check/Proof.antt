@@ -1,9 +1,11 @@
+use Prim.Native.Nat.{_/_, _<_}
 use native.Mathlib.Omega.{arith}
 use mathlib.Core.Path.{_∙_}
 use lib.ListN.{length}
 use denote.Ref.{now}
 use borrow.Author.Needs.{needs}
-use Rattle.qcow2_calls.proofs.Rooms.{check-short, check-room, scratch-short, scratch-room}
+use Rattle.qcow2_repair.proofs.Rooms.{scratch-short, scratch-room}
+use Rattle.qcow2_calls.proofs.Rooms.{check-short, check-room}
 use Rattle.qcow2_calls.proofs.check.Statement.{statement}
 use Rattle.qcow2_calls.proofs.check.Tie as tie
 
@@ -12,7 +14,8 @@ returns c =
     let b = c .before .before .before .before in
     let s = now (b .args .image) in
     let t = now (b .args .scratch) in
-    (check-short (b .args .g) s (b .pre .0) (length t) (c .if1 .taken), scratch-short (b .args .g) s (b .pre .0) t (c .if1 .taken))
+    let h : length t / 2 < b .args .g .clusters = omega (arith, c .if1 .taken) in
+    (check-short (b .args .g) s (b .pre .0) (length t) h, scratch-short (b .args .g) s (b .pre .0) t h)
 
 check-requires : tie.Need-check-requires
 check-requires c κs = (c .before .before .before .before .before .pre, omega (arith, c .before .if1 .left))

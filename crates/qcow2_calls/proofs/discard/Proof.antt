@@ -1,12 +1,9 @@
-use Prim.Native.Nat.{_<_, _/_}
-use mathlib.Core.Path.{sym, subst}
+use mathlib.Core.Path.{refl}
 use denote.Ref.{now}
 use borrow.Author.Needs.{needs}
-use Rattle.qcow2_spec.specs.declared.Way.{Way}
-use Rattle.qcow2_spec.specs.Header.{perTable, rootSize}
-use Rattle.qcow2_spec.specs.Ready.{Ready}
-use Rattle.qcow2_own.proofs.Ready.{own-ready}
-use Rattle.qcow2_calls.proofs.Requests.{has-row-cluster, discard-past, inside, discard-some}
+use Rattle.units.proofs.Steps.{refusal}
+use Rattle.qcow2_own.proofs.Ready.{found-ready}
+use Rattle.qcow2_own.proofs.Requests.{discard-past, has-row-cluster, discard-some}
 use Rattle.qcow2_calls.proofs.discard.Statement.{statement}
 use Rattle.qcow2_calls.proofs.discard.Tie as tie
 
@@ -17,31 +14,28 @@ returns : tie.Need-returns
 returns c =
     let b = c .before .before .before in
     let a = b .args in
-    discard-past (a .g) (now (a .image)) (b .pre) (a .guest) (a .allowance) (rw (c .before .disk-clusters .ensures) at (c .if1 .taken))
+    rw (discard-past (a .g) (now (a .image)) (b .pre) (a .guest) (rw (c .before .disk-clusters .ensures) at (c .if1 .taken))) (refusal 11 (a .allowance) (now (a .image)) _ refl)
 
 own-way-requires : tie.Need-own-way-requires
 own-way-requires c κs =
     let b = c .before .before .before .before in
     let a = b .args in
-    let s = now (a .image) in
-    let l = inside (a .g) s (b .pre) (a .guest) (a .allowance) (rw (c .before .before .disk-clusters .ensures) at (c .before .if1 .left)) in
-    (b .pre, has-row-cluster (a .g) s (b .pre) (a .guest) l)
+    (b .pre, has-row-cluster (a .g) (now (a .image)) (b .pre) (a .guest) (rw (c .before .before .disk-clusters .ensures) at (c .before .if1 .left)))
 
 discard-way-requires : tie.Need-discard-way-requires
 discard-way-requires c κs =
     let b = c .before .before .before .before .before .before in
     let a = b .args in
     let s = now (a .image) in
-    let l = inside (a .g) s (b .pre) (a .guest) (a .allowance) (rw (c .before .before .before .before .disk-clusters .ensures) at (c .before .before .before .if1 .left)) in
-    let h : a .guest / perTable s < rootSize s 0 = has-row-cluster (a .g) s (b .pre) (a .guest) l in
-    (b .pre .0, subst (λ (w : Way). Ready (a .g) s w (a .guest)) (sym (c .before .own-way .ensures)) (own-ready (a .g) s (a .guest) (b .pre) h))
+    let l = rw (c .before .before .before .before .disk-clusters .ensures) at (c .before .before .before .if1 .left) in
+    (b .pre .0, found-ready (a .g) s (a .guest) _ (c .before .own-way .ensures) (b .pre) (has-row-cluster (a .g) s (b .pre) (a .guest) l))
 
 returns-2 : tie.Need-returns-2
 returns-2 c =
     let b = c .before .before .before .before .before .before .before .before .before in
     let a = b .args in
-    discard-some (a .g) (now (a .image)) (b .pre) (a .guest) (a .allowance) (c .before .before .before .before .own-way .result) _ _
-    (rw (c .before .before .before .before .before .before .before .disk-clusters .ensures) at (c .before .before .before .before .before .before .if1 .left)) (c .before .before .before .before .own-way .ensures) (c .before .before .discard-way .ensures)
+    let l = rw (c .before .before .before .before .before .before .before .disk-clusters .ensures) at (c .before .before .before .before .before .before .if1 .left) in
+    rw (discard-some (a .g) (now (a .image)) (b .pre) (a .guest) l (c .before .before .before .before .own-way .result) (c .before .before .before .before .own-way .ensures)) (c .before .before .discard-way .ensures)
 
 pub discard-spec : {M : Type 1} → statement M
 discard-spec =

@@ -4,7 +4,7 @@ use Prim.Native.Nat.{suc, _≤_}
 use mathlib.Core.Path.{_≡_, sym}
 use lib.ListN.{length}
 use denote.Ref.{now}
-use Rattle.qcow2_calls.proofs.Requests.{shot-none, shot-kept}
+use Rattle.qcow2_calls.proofs.Shots.{shot-none, shot-kept}
 use Rattle.qcow2_calls.proofs.read_snapshot.Statement.{statement}
 use Rattle.qcow2_calls.proofs.read_snapshot.Tie as tie
 

@@ -5,7 +5,7 @@ use lib.ListN.{length}
 use Rattle.qcow2_jobs.specs.Jobs.{ReleaseIn, freedUnits}
 use Rattle.qcow2_jobs.specs.declared.releasing.Release.{Release}
 use Rattle.qcow2_spec.specs.Store.{discardWay}
-use Rattle.qcow2_put.proofs.Clears.{clear-refused, clear-idle, clear-stored}
+use Rattle.qcow2_clear.proofs.Clears.{clear-refused, clear-idle, clear-stored}
 use Rattle.qcow2_discard.proofs.Some.{freed-some}
 use Rattle.qcow2_discard.proofs.discard_way.Statement.{statement}
 use Rattle.qcow2_discard.proofs.discard_way.Tie as tie

@@ -2,7 +2,7 @@ use borrow.Author.Needs.{needs}
 use native.Mathlib.Omega.{arith}
 use denote.Ref.{now}
 use Rattle.qcow2_jobs.specs.Jobs.{freedUnits}
-use Rattle.qcow2_put.proofs.Clears.{within, clear-first}
+use Rattle.qcow2_clear.proofs.Clears.{within, clear-first}
 use Rattle.qcow2_discard.proofs.Some.{freed-some}
 use Rattle.qcow2_discard.proofs.store.Statement.{statement}
 use Rattle.qcow2_discard.proofs.store.Tie as tie

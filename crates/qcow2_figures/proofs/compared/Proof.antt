@@ -5,8 +5,8 @@ use mathlib.Core.Path.{refl}
 use lib.ListN.{length}
 use denote.Ref.{now}
 use Rattle.packed.proofs.Parts.{part-of, length-part}
-use Rattle.packed_wide.specs.Twos.{figuresIn}
-use Rattle.packed_wide.proofs.Laws.{many-lent, figures-lent}
+use Rattle.packed_twos.specs.Twos.{figuresIn}
+use Rattle.packed_twos.proofs.Laws.{many-lent, figures-lent}
 use Rattle.qcow2_figures.proofs.Compares.{length-figures, judging-whole}
 use Rattle.qcow2_figures.proofs.compared.Statement.{statement}
 use Rattle.qcow2_figures.proofs.compared.Tie as tie

@@ -5,7 +5,7 @@ use Prim.Native.Nat.{ℕ, _+_, _-_, _*_, _^_, _≤_}
 use mathlib.Core.Path.{_≡_, sym, ap, _∙_}
 use lib.ListN.{length}
 use denote.Ref.{now}
-use Rattle.packed_wide.specs.Twos.{figuresIn}
+use Rattle.packed_twos.specs.Twos.{figuresIn}
 use Rattle.qcow2_spec.specs.Counts.{countOf}
 use Rattle.qcow2_figures.specs.Known.{Judging}
 use Rattle.qcow2_counts.proofs.Blocks.{packed-inside}

@@ -19,10 +19,16 @@ returns c =
     (search needs, zeros-passed (a .kind) (a .version) (2 ^ a .bits) (a .n) (length T / 8) (a .i) T (now (a .scratch)) 64 (omega (arith, b .pre .1)) (omega arith) e)
 
 walk-each-requires : tie.Need-walk-each-requires
-walk-each-requires c κs = c .before .before .before .before .before .before .pre
+walk-each-requires c κs = let p = c .before .before .before .before .before .before .before .pre in ((p .0 .0, omega arith), p .1)
 
 returns-2 : tie.Need-returns-2
-returns-2 c = c .before .before .walk-each .ensures
+returns-2 c = let w = c .before .before in rw (w .before .before .if2 .taken) (w .walk-each .ensures)
+
+walk-each-requires-2 : tie.Need-walk-each-requires-2
+walk-each-requires-2 c κs = c .before .before .before .before .before .before .before .pre
+
+returns-3 : tie.Need-returns-3
+returns-3 c = c .before .before .walk-each2 .ensures
 
 pub walk-group-spec : {M : Type 1} → statement M
 walk-group-spec =
@@ -38,4 +44,7 @@ walk-group-spec =
     returns
     walk-each-requires
     (search needs)
-    returns-2)
+    returns-2
+    walk-each-requires-2
+    (search needs)
+    returns-3)

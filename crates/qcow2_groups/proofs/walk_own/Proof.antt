@@ -49,8 +49,8 @@ place-of c =
     let h : a .e % 2 ^ 63 % 2 ^ a .bits ≤ markOf (a .version) = rw (c .before .before .before .before .marks .ensures .0, r .rest .ensures .0, bare r) at (c .if2 .left) in
     placed-of (a .version) (a .bits) (p .clusters) (a .n) (a .e % 2 ^ 63) (p .low) (p .fits) (inside r .0) (inside r .1) h
 
-visit-requires : tie.Need-visit-requires
-visit-requires c κs =
+count-up-requires : tie.Need-count-up-requires
+count-up-requires c κs =
     let r = c .before .before .before in
     let b = r .before .before .before .before .before in
     let a = b .args in
@@ -58,7 +58,7 @@ visit-requires c κs =
     let x = a .e % 2 ^ 63 in
     let h : x < p .clusters * 2 ^ a .bits = omega (arith, inside r .1, p .fits) in
     let q = rw (bare r) at (c .quotient .ensures .0) in
-    (omega (arith, cluster-below x (p .clusters) (a .bits) h, q, p .holds), omega arith)
+    omega (arith, cluster-below x (p .clusters) (a .bits) h, q, p .holds)
 
 returns-3 : tie.Need-returns-3
 returns-3 c =
@@ -66,7 +66,7 @@ returns-3 c =
     let b = r .before .before .before .before .before in
     let a = b .args in
     let w = r .before .before .wrapping-sub-u64 in
-    rw (c .before .before .visit .ensures, c .before .before .before .quotient .ensures .0, bare r)
+    rw (c .before .before .count-up .ensures, c .before .before .before .quotient .ensures .0, bare r)
     (placed-stepped 0 (a .version) (a .bits) (a .n) (a .e) (b .pre .low) (b .pre .small) (search needs) (now (a .scratch)) (place-of (c .before .before .before .before .before)) (λ k e. omega (arith, e, w .ensures, r .before .if1 .left, b .pre .small)))
 
 pub walk-own-spec : {M : Type 1} → statement M
@@ -81,6 +81,6 @@ walk-own-spec =
     (search needs)
     returns-2
     (search needs)
-    visit-requires
+    count-up-requires
     (search needs)
     returns-3)

@@ -2,8 +2,8 @@ use borrow.Author.Needs.{needs}
 use native.Mathlib.Omega.{arith}
 use lib.ListN.{length}
 use denote.Ref.{now}
-use Rattle.packed_wide.specs.Twos.{many, figuresIn}
-use Rattle.qcow2_mend.specs.Fixed.{fixes}
+use Rattle.packed_twos.specs.Twos.{many, figuresIn}
+use Rattle.qcow2_setcount.specs.Fixed.{fixes}
 use Rattle.qcow2_mend.proofs.Wholes.{bytes-16, all-right, all-past, all-stored}
 use Rattle.qcow2_mend.proofs.repair_packed.Statement.{statement}
 use Rattle.qcow2_mend.proofs.repair_packed.Tie as tie

@@ -2,7 +2,7 @@ use borrow.Author.Needs.{needs}
 use native.Mathlib.Omega.{arith}
 use mathlib.Core.Path.{_∙_}
 use denote.Ref.{now}
-use Rattle.packed_wide.specs.Twos.{many}
+use Rattle.packed_twos.specs.Twos.{many}
 use Rattle.qcow2_mend.proofs.Wholes.{set-all}
 use Rattle.qcow2_mend.proofs.set_counts.Statement.{statement}
 use Rattle.qcow2_mend.proofs.set_counts.Tie as tie

@@ -4,8 +4,8 @@ use Prim.Native.Nat.{ℕ, _+_, _-_, _/_}
 use mathlib.Core.Path.{_≡_, _∙_}
 use lib.ListN.{length}
 use denote.Ref.{now}
-use Rattle.packed_wide.specs.Twos.{many, figuresIn}
-use Rattle.qcow2_mend.proofs.Fixes.{fixes-most}
+use Rattle.packed_twos.specs.Twos.{many, figuresIn}
+use Rattle.qcow2_setcount.proofs.Fixes.{fixes-most}
 use Rattle.qcow2_mend.proofs.Wholes.{unlike-units}
 use Rattle.qcow2_mend.proofs.unlike.Statement.{statement}
 use Rattle.qcow2_mend.proofs.unlike.Tie as tie

@@ -2,7 +2,7 @@ use borrow.Author.Needs.{needs}
 use native.Mathlib.Omega.{arith}
 use native.Mathlib.Nat.{div-add-mod', mul-div-mul-left}
 use lib.Pow.{pow-add}
-use Rattle.qcow2_entry.specs.Plain.{bare}
+use Rattle.qcow2_plain.specs.Plain.{bare}
 use Prim.Native.Nat.{ℕ, _+_, _*_, _/_, _%_, _^_}
 use mathlib.Core.Path.{_≡_}
 use Rattle.qcow2_read.proofs.host_at.Statement.{statement}

@@ -7,7 +7,7 @@ use lib.ListN.{length}
 use Rattle.qcow2_spec.specs.Guest.{located}
 use Rattle.qcow2_spec.specs.declared.Found.the-variants.{Host}
 use Rattle.qcow2_spec.proofs.Facts.{facts, c-in}
-use Rattle.qcow2_entry.proofs.Plain.{plain-parts}
+use Rattle.qcow2_plain.proofs.Plain.{plain-parts}
 use Rattle.qcow2_guest.proofs.Pieces.{copied, cleared}
 use Rattle.qcow2_guest.proofs.Bytes.{plain-found, other-found}
 use Rattle.qcow2_read.proofs.read_piece.Statement.{statement}

@@ -4,8 +4,8 @@ use Prim.Native.Nat.{ℕ, _+_, _-_, _≤_, _<_}
 use mathlib.Core.Path.{_≡_, refl, _∙_}
 use lib.ListN.{length}
 use denote.Ref.{now}
-use Rattle.packed_wide.specs.Twos.{many, figuresIn}
-use Rattle.packed_wide.proofs.Laws.{many-lent, figures-lent}
+use Rattle.packed_twos.specs.Twos.{many, figuresIn}
+use Rattle.packed_twos.proofs.Laws.{many-lent, figures-lent}
 use Rattle.qcow2_repair.proofs.Midway.{State, state-first, state-next, state-last, found-reach}
 use Rattle.qcow2_repair.proofs.repair.Statement.{statement}
 use Rattle.qcow2_repair.proofs.repair.Tie as tie

@@ -1,7 +1,7 @@
 use borrow.Author.Needs.{needs}
 use native.Mathlib.Omega.{arith}
 use denote.Ref.{now}
-use Rattle.packed_wide.specs.Twos.{many}
+use Rattle.packed_twos.specs.Twos.{many}
 use Rattle.qcow2_counts.proofs.Sizes.{row-part}
 use Rattle.qcow2_repair.proofs.repair_block.Statement.{statement}
 use Rattle.qcow2_repair.proofs.repair_block.Tie as tie

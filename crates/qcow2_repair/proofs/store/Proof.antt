@@ -4,7 +4,7 @@ use denote.Ref.{now}
 use Rattle.qcow2_spec.specs.Header.{clusters}
 use Rattle.qcow2_spec.specs.References.{figuresOf}
 use Rattle.qcow2_spec.specs.Check.{repairUnits}
-use Rattle.qcow2_put.proofs.Clears.{within, clear-first}
+use Rattle.qcow2_clear.proofs.Clears.{within, clear-first}
 use Rattle.qcow2_repair.proofs.Midway.{refs-long}
 use Rattle.qcow2_repair.proofs.Repairs.{cleared-kept, laid-kept, mended}
 use Rattle.qcow2_repair.proofs.store.Statement.{statement}

@@ -3,7 +3,7 @@ use native.Mathlib.Omega.{arith}
 use Prim.Native.Nat.{_+_, _-_, _%_, _^_, _<_, _≤_}
 use mathlib.Core.Path.{_≡_, refl, sym, _∙_}
 use denote.Ref.{now}
-use Rattle.qcow2_runs.specs.Going.{runFrom}
+use Rattle.qcow2_runs.specs.Ends.{runFrom}
 use Rattle.qcow2_runs.proofs.Stretches.{row-ahead, row-stop, row-some, run-next, run-stops, run-over}
 use Rattle.qcow2_runs.proofs.next_rows.Statement.{statement}
 use Rattle.qcow2_runs.proofs.next_rows.Tie as tie

@@ -3,7 +3,7 @@ use native.Mathlib.Omega.{arith}
 use denote.Ref.{now}
 use Prim.Native.Nat.{_^_}
 use Rattle.qcow2_jobs.specs.Jobs.{jobUnits}
-use Rattle.qcow2_put.proofs.Clears.{within, clear-first}
+use Rattle.qcow2_clear.proofs.Clears.{within, clear-first}
 use Rattle.qcow2_write.proofs.Some.{job-some}
 use Rattle.qcow2_write.proofs.store.Statement.{statement}
 use Rattle.qcow2_write.proofs.store.Tie as tie

@@ -6,7 +6,7 @@ use lib.ListN.{length}
 use Rattle.qcow2_jobs.specs.Jobs.{jobUnits, DecisionIn}
 use Rattle.qcow2_jobs.specs.declared.finding.Decision.{Decision}
 use Rattle.qcow2_spec.specs.Store.{writeWay}
-use Rattle.qcow2_put.proofs.Clears.{clear-refused, clear-stored}
+use Rattle.qcow2_clear.proofs.Clears.{clear-refused, clear-stored}
 use Rattle.qcow2_write.proofs.Some.{job-some}
 use Rattle.qcow2_write.proofs.write_way.Statement.{statement}
 use Rattle.qcow2_write.proofs.write_way.Tie as tie

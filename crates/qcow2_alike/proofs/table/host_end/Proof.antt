@@ -5,7 +5,7 @@ use Prim.Native.Nat.{ℕ, _+_, _-_, _*_, _^_, _≤_}
 use mathlib.Core.Path.{_≡_, refl, sym, _∙_}
 use denote.Ref.{now}
 use Rattle.qcow2_spec.specs.declared.Found.the-variants.{Host}
-use Rattle.qcow2_entry.proofs.Plain.{plain-parts}
+use Rattle.qcow2_plain.proofs.Plain.{plain-parts}
 use Rattle.qcow2_alike.specs.Alike.{entriesEnd}
 use Rattle.qcow2_alike.proofs.Entries.{end-turn, end-stop, end-over, host-goes, host-not, host-apart, next-host}
 use Rattle.qcow2_alike.proofs.table.host_end.Statement.{statement}

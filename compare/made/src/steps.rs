@@ -1,0 +1,198 @@
+//! The steps of calls on sound and leaking images, for one implementation: they
+//! are just what the call changes, and a store that brings the finished image's
+//! bytes to a drive epoch by epoch may lose any sectors of the last.
+
+use answers::{Calls, Outcome, Step, STEP};
+use plain::plain_disk::Series;
+
+use crate::clearing::call as run;
+use crate::drive::{call, step, usable, with_allowance};
+use crate::image::Made;
+use crate::pair::list_steps;
+use crate::requests::{Request, Requests};
+use crate::rng::Rng;
+use crate::snapshot_drive;
+
+const ALL: u64 = u64::MAX;
+/// What a drive stores whole or not at all.
+pub const SECTOR: usize = 512;
+
+/// What a run has met.
+#[derive(Debug, Default)]
+pub struct Met {
+    pub calls: u64,
+    /// Power cuts, by the epoch that they fell into.
+    pub cuts: [u64; 3],
+    /// Calls that were refused.
+    pub refused: u64,
+}
+
+/// Series of calls on random images, every second with snapshots, until so many
+/// were made.
+pub fn follow(side: &dyn Calls, rng: &mut Rng, calls: u64) -> Met {
+    let mut met = Met::default();
+    while met.calls < calls {
+        let made = if rng.once_in(2) { usable(rng) } else { snapshot_drive::usable(rng) };
+        follow_on(side, &made, rng, &mut met);
+    }
+    met
+}
+
+/// One series; each call is cut before it is made, and autoclear bits are set
+/// again at times.
+pub fn follow_on(side: &dyn Calls, made: &Made, rng: &mut Rng, met: &mut Met) {
+    let mut image = made.bytes.clone();
+    let mut series = Series::start(side, &image).expect("a usable image");
+    let mut requests = Requests::new(made);
+    for _ in 0..4 + rng.below(8) {
+        if made.version == 3 && rng.once_in(4) {
+            image[88 + rng.index(8)] |= 1 << rng.below(8);
+        }
+        let request = with_allowance(&requests.storing(rng), ALL);
+        look(side, &series, &image, &request, rng, met);
+        step(&mut series, &mut image, &request);
+        met.calls += 1;
+    }
+}
+
+/// The steps of one request on this image.
+fn look(
+    side: &dyn Calls,
+    series: &Series,
+    image: &[u8],
+    request: &Request,
+    rng: &mut Rng,
+    met: &mut Met,
+) {
+    let listed = steps(side, image, request);
+    let (outcome, finished, _) = run(side, image, request);
+    let (steps, units) = match (listed, outcome) {
+        (Ok(steps), Outcome::Finished(units)) => (steps, units),
+        (Err(number), Outcome::Refused(other)) if number == other => {
+            met.refused += 1;
+            return;
+        }
+        (listed, outcome) => panic!("{listed:?} for {outcome:?}: {request:?}"),
+    };
+    assert_eq!(steps.iter().map(|step| step.units).sum::<u64>(), units, "{request:?}");
+    are_apart(&steps, request);
+    are_all(image, &finished, &steps, request);
+    are_filled(side, image, request, &finished, &steps);
+    are_units(side, image, request, &steps, rng);
+    for epoch in 0..3 {
+        if steps.iter().any(|step| step.epoch == epoch) {
+            cut(series, image, request, &finished, &steps, epoch, rng);
+            met.cuts[epoch as usize] += 1;
+        }
+    }
+}
+
+/// All steps of a storing request.
+pub fn steps(side: &dyn Calls, image: &[u8], request: &Request) -> Result<Vec<Step>, u32> {
+    let scratch = match *request {
+        Request::Repair { scratch, .. } => scratch,
+        _ => 0,
+    };
+    // A count for each cluster, and the clearing unit.
+    let mut rows = vec![0; STEP * (8 + scratch)];
+    let request = request.steps(rows.len());
+    let count = list_steps(side, image, &request, &mut vec![0x5A; scratch], &mut rows)?;
+    Ok(Step::of_rows(&rows[..STEP * count]).collect())
+}
+
+/// Epochs rise, and no byte is in steps of two of them.
+fn are_apart(steps: &[Step], request: &Request) {
+    assert!(steps.is_sorted_by_key(|step| step.epoch), "{request:?}");
+    for (index, one) in steps.iter().enumerate() {
+        for other in steps[index..].iter().filter(|other| other.epoch != one.epoch) {
+            let apart = one.range().end <= other.at || other.range().end <= one.at;
+            assert!(apart, "{one:?} and {other:?}: {request:?}");
+        }
+    }
+}
+
+/// What is changed is in a step.
+fn are_all(image: &[u8], finished: &[u8], steps: &[Step], request: &Request) {
+    let mut brought = image.to_vec();
+    bring(&mut brought, finished, steps, |_| true);
+    assert!(brought == finished, "a change that no step has: {request:?}");
+}
+
+/// All bytes of a fill are stored: what they were before does not matter.
+fn are_filled(side: &dyn Calls, image: &[u8], request: &Request, finished: &[u8], steps: &[Step]) {
+    // A write with nothing to link or to show has its data in place, which may be
+    // one byte.
+    let in_place =
+        matches!(request, Request::Write { .. }) && before(steps, 2).len() == steps.len();
+    let is_fill = |step: &&Step| step.units > 1 || in_place && step.epoch == 1;
+    let mut other = image.to_vec();
+    for step in steps.iter().filter(is_fill) {
+        other[step.range()].iter_mut().for_each(|byte| *byte = !*byte);
+    }
+    assert_eq!(self::steps(side, &other, request).as_deref(), Ok(steps), "{request:?}");
+    assert!(run(side, &other, request).1 == finished, "not stored: {request:?}");
+}
+
+/// Each unit stores in its own place: of a fill one byte, else the step's.
+fn are_units(side: &dyn Calls, image: &[u8], request: &Request, steps: &[Step], rng: &mut Rng) {
+    let mut done = 0;
+    for step in steps.iter().take(8) {
+        let random = rng.below(step.units);
+        for unit in [0, random, step.units - 1] {
+            let place = match step.units {
+                1 => step.range(),
+                _ => step.at + unit as usize..step.at + unit as usize + 1,
+            };
+            let at = |units| run(side, image, &with_allowance(request, units)).1;
+            let (mut fewer, more) = (at(done + unit), at(done + unit + 1));
+            fewer[place.clone()].copy_from_slice(&more[place]);
+            assert!(fewer == more, "unit {unit} of {step:?}: {request:?}");
+        }
+        done += step.units;
+    }
+}
+
+/// Power cuts in this epoch, each with other sectors lost; then the request is
+/// made once more, or a repair.
+fn cut(
+    series: &Series,
+    image: &[u8],
+    request: &Request,
+    finished: &[u8],
+    steps: &[Step],
+    epoch: u64,
+    rng: &mut Rng,
+) {
+    let scratch = 2 * image.len() / SECTOR;
+    let repair = Request::Repair { scratch, allowance: ALL };
+    for turn in 0..6 {
+        let seed = rng.number();
+        let kept = |sector: usize| match turn {
+            0 => false,
+            1 => true,
+            _ => Rng::new(seed ^ sector as u64).once_in(2),
+        };
+        let mut now = image.to_vec();
+        bring(&mut now, finished, &before(steps, epoch), |_| true);
+        let at_work: Vec<Step> = steps.iter().copied().filter(|it| it.epoch == epoch).collect();
+        bring(&mut now, finished, &at_work, kept);
+        let mut series = series.clone();
+        let holds = series.cut(image, call(request).0, &now);
+        holds.unwrap_or_else(|fault| panic!("{fault}: cut in epoch {epoch}: {request:?}"));
+        step(&mut series, &mut now, if rng.once_in(2) { request } else { &repair });
+    }
+}
+
+/// The steps of the epochs before this one.
+fn before(steps: &[Step], epoch: u64) -> Vec<Step> {
+    steps.iter().copied().filter(|step| step.epoch < epoch).collect()
+}
+
+/// Brings the steps' bytes in the sectors that are kept.
+pub fn bring(drive: &mut [u8], finished: &[u8], steps: &[Step], kept: impl Fn(usize) -> bool) {
+    for at in steps.iter().flat_map(Step::range) {
+        if kept(at / SECTOR) {
+            drive[at] = finished[at];
+        }
+    }
+}

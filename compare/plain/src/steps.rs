@@ -1,0 +1,49 @@
+//! What a call is going to change, and what the header says.
+
+use answers::{Geometry, Step, Verdict, STEP};
+
+use crate::check::examine;
+use crate::header::Header;
+use crate::list::{List, Store};
+use crate::storing::{discard_list, write_list};
+
+/// Cluster size, disk size and number of clusters.
+pub fn geometry(image: &[u8]) -> Result<Geometry, u32> {
+    let Header { cluster_bits, disk, clusters, .. } = Header::judge(image)?;
+    Ok(Geometry { cluster_bits, size: disk.size, clusters })
+}
+
+/// The steps of a write of `len` bytes, as many as `rows` have room for.
+pub fn write_steps(image: &[u8], offset: u64, len: u64, rows: &mut [u64]) -> Result<usize, u32> {
+    Ok(put(write_list(image, offset, len, &[])?.steps(), rows))
+}
+
+/// The same for a discard.
+pub fn discard_steps(image: &[u8], cluster: u64, rows: &mut [u64]) -> Result<usize, u32> {
+    Ok(put(discard_list(image, cluster)?.steps(), rows))
+}
+
+/// The same for a repair; `scratch` ends as the repair leaves it.
+pub fn repair_steps(image: &[u8], scratch: &mut [u8], rows: &mut [u64]) -> Result<usize, u32> {
+    let header = match examine(image, scratch)? {
+        (_, Verdict::Sound) => return Ok(0),
+        (header, Verdict::Leaks(_)) => header,
+        _ => return Err(17),
+    };
+    let counts = (0..header.clusters).filter_map(|cluster| {
+        let value = u16::from_be_bytes([scratch[2 * cluster], scratch[2 * cluster + 1]]).into();
+        let cell = header.cell(image, cluster);
+        (cell.load(image) != value).then(|| Store::Count { cell, value }.step(1))
+    });
+    Ok(put(List::clearing(&header).steps().chain(counts), rows))
+}
+
+/// How many there was room for.
+fn put(steps: impl Iterator<Item = Step>, rows: &mut [u64]) -> usize {
+    let mut count = 0;
+    for (row, step) in rows.as_chunks_mut::<STEP>().0.iter_mut().zip(steps) {
+        *row = step.row();
+        count += 1;
+    }
+    count
+}

@@ -1,0 +1,4 @@
+pub mod Laws
+pub mod Extents
+pub mod Lists
+pub mod Repairs

@@ -1,0 +1,75 @@
+-- The rows of a write's and a discard's lists. Assumes nothing.
+use Prim.Native.Nat.{ℕ, suc, _+_, _/_, _^_, _≤_, _<_}
+use native.Mathlib.Omega.{arith}
+use mathlib.Core.Path.{_≡_, refl, ap, _∙_}
+use mathlib.Core.Bool.{false}
+use mathlib.Core.List.{List, [], _∷_, _++_, append-nil}
+use lib.ListN.{length, replicate, length-replicate}
+use Rattle.widths.specs.Width.{span}
+use Rattle.units.specs.Units.{UnitStore, entry, count, fill, cluster}
+use Rattle.units.proofs.Laws.{length-cluster}
+use Rattle.qcow2_spec.specs.Entries.{newEntry}
+use Rattle.qcow2_spec.specs.Flush.{storesEntry, halves}
+use Rattle.qcow2_spec.specs.Steps.{filled, join, extents, rowsOf, stepRows}
+use Rattle.qcow2_spec.proofs.Flush.{halves-entry, halves-table, halves-drop, halves-none}
+use Rattle.qcow2_put.specs.declared.linking.Places.{Places}
+use Rattle.qcow2_put.specs.Links.{tableUnits}
+use Rattle.qcow2_rows.proofs.Extents.{Apart, none, next, extents-fill}
+
+-- the row of a count in an epoch, that of an entry, and that of n bytes that are filled
+abbrev pub countRow : (order at e : ℕ) → List ℕ
+countRow o a e = a / 8 ∷ span (2 ^ o) ∷ 1 ∷ e ∷ []
+
+abbrev pub entryRow : (at e : ℕ) → List ℕ
+entryRow a e = a ∷ 8 ∷ 1 ∷ e ∷ []
+
+abbrev pub fillRow : (at n e : ℕ) → List ℕ
+fillRow a n e = a ∷ n ∷ n ∷ e ∷ []
+
+-- ---- a fill of n bytes, before units that no byte joins
+extents-filled : (a n : ℕ) (bs : List ℕ) → length bs ≡ n → 0 < n → (us : List UnitStore) → Apart (extents us) → extents (fill a bs ++ us) ≡ filled a n ∷ extents us
+extents-filled a n bs e h us w = extents-fill a bs (omega arith) us w ∙ ap (λ (m : ℕ). filled a m ∷ extents us) e
+
+-- ---- a write of bytes alone
+no-entry : (a : ℕ) (d : List ℕ) → storesEntry (fill a d) ≡ false
+unfolding storesEntry fill
+no-entry a [] = refl
+no-entry a (b ∷ d) = no-entry (suc a) d
+
+pub rows-bytes : (a n : ℕ) (d : List ℕ) → length d ≡ n → 0 < n → stepRows 1 (halves (fill a d)) ≡ fillRow a n 1
+unfolding stepRows rowsOf extents
+rows-bytes a n d e h = rw (halves-none (fill a d) (no-entry a d), ← append-nil (fill a d), extents-filled a n d e h [] none)
+
+-- ---- a whole cluster and its entry; a count before them
+module _ (at p v c : ℕ) (bs : List ℕ) (e : length bs ≡ c) (h : 0 < c) where
+  pub rows-marked : stepRows 1 (halves (fill p bs ++ entry at v ∷ [])) ≡ fillRow p c 1 ++ entryRow at 2
+  unfolding stepRows rowsOf extents join
+  rows-marked = rw (halves-entry (fill p bs) at v, ← append-nil (fill p bs), extents-filled p c bs e h [] none)
+
+  pub rows-new : (o n x : ℕ) → stepRows 1 (halves ((count (2 ^ o) n x ∷ fill p bs) ++ entry at v ∷ [])) ≡ countRow o n 1 ++ fillRow p c 1 ++ entryRow at 2
+  unfolding stepRows rowsOf extents join
+  rows-new o n x = rw (halves-entry (count (2 ^ o) n x ∷ fill p bs) at v, ← append-nil (fill p bs), extents-filled p c bs e h [] none)
+
+-- ---- a table too
+abbrev pub tableRows : Places → (c : ℕ) → List ℕ
+tableRows p c = countRow (p .order) (p .tablecount) 1 ++ fillRow (p .table) c 1 ++ countRow (p .order) (p .datacount) 1 ++ fillRow (p .place) c 1 ++ entryRow (p .slot) 1 ++ entryRow (p .link) 2
+
+pub rows-table : (p : Places) (c o : ℕ) (d : List ℕ) → o + length d ≤ c → 0 < c → stepRows 1 (halves (tableUnits p c o d)) ≡ tableRows p c
+unfolding tableUnits stepRows rowsOf extents join
+rows-table p c o d f h =
+    let w : UnitStore = entry (p .slot) (newEntry (p .place)) in
+    let k : UnitStore = count (2 ^ p .order) (p .datacount) 1 in
+    let z : List ℕ = replicate c 0 in
+    let b : List ℕ = cluster c o d in
+    let y = extents-filled (p .place) c b (length-cluster c o d f) h (w ∷ []) next in
+    let x = extents-filled (p .table) c z (length-replicate c 0) h (k ∷ fill (p .place) b ++ w ∷ []) next in
+    rw (halves-table (count (2 ^ p .order) (p .tablecount) 1 ∷ fill (p .table) z) (k ∷ fill (p .place) b) w (p .link) (newEntry (p .table)), x, y)
+
+-- ---- a discard
+pub rows-entry : (at v : ℕ) → stepRows 1 (halves (entry at v ∷ [])) ≡ entryRow at 2
+unfolding stepRows rowsOf extents join
+rows-entry at v = rw (halves-entry [] at v)
+
+pub rows-both : (at v o n x : ℕ) → stepRows 1 (halves (entry at v ∷ count (2 ^ o) n x ∷ [])) ≡ entryRow at 1 ++ countRow o n 2
+unfolding stepRows rowsOf extents join
+rows-both at v o n x = rw (halves-drop at v (2 ^ o) n x)

@@ -1,0 +1,92 @@
+-- `qcow2_rows::jobs::job_rows` meets its contract. Assumes nothing.
+use native.Mathlib.Omega.{arith}
+use mathlib.Core.Path.{subst}
+use borrow.Author.Needs.{needs}
+use Rattle.units.specs.Units.{cluster}
+use Rattle.units.proofs.Laws.{length-cluster}
+use Rattle.qcow2_spec.specs.Header.{mostLength}
+use Rattle.qcow2_jobs.specs.Jobs.{JobIn}
+use Rattle.qcow2_rows.proofs.Laws.{puts-then, puts-same}
+use Rattle.qcow2_rows.proofs.Lists.{rows-bytes, rows-marked, rows-new}
+use Rattle.qcow2_rows.proofs.jobs.job_rows.Statement.{statement}
+use Rattle.qcow2_rows.proofs.jobs.job_rows.Tie as tie
+
+add-put-row : tie.Need-add-put-row
+add-put-row c =
+    let s = c .before .before .before .before .before in
+    let h = subst (JobIn mostLength (s .args .c)) (c .before .before .job .given .1) (s .pre .0 .1) in
+    omega (arith, h, s .pre .1 .0)
+
+put-count-requires : tie.Need-put-count-requires
+put-count-requires c κs =
+    let s = c .before .before .before .before .before in
+    let h = subst (JobIn mostLength (s .args .c)) (c .before .before .job3 .given .1) (s .pre .0 .1) in
+    omega (arith, s .pre .0 .0, h .0 .few)
+
+table-rows-requires : tie.Need-table-rows-requires
+table-rows-requires c κs =
+    let s = c .before .before .before .before .before in
+    let h = subst (JobIn mostLength (s .args .c)) (c .before .before .job4 .given .1) (s .pre .0 .1) in
+    let z = s .pre .1 in
+    ((s .pre .0 .0, h), omega arith)
+
+returns : tie.Need-returns
+returns c =
+    let s = c .before .before .before .before .before .before .before .before in
+    let a = c .before .before .put-row .ensures in
+    rw (c .before .before .before .before .before .job .given .1) (omega (arith, s .pre .0 .0, a .0), λ d e. puts-same (rows-bytes _ (s .args .len) d e (s .pre .1 .1)) (a .1))
+
+returns-2 : tie.Need-returns-2
+returns-2 c =
+    let s = c .before .before .before .before .before .before .before .before .before .before .before .before in
+    let a = c .before .before .before .before .before .before .put-row2 .ensures in
+    let b = c .before .before .put-entry .ensures in
+    let z = s .pre .1 in
+    rw (c .before .before .before .before .before .before .before .before .before .job2 .given .1) (
+      omega (arith, s .pre .0 .0, a .0, b .0),
+      λ d e. puts-same (rows-marked _ _ _ (s .args .c) (cluster (s .args .c) (s .args .o) d) (length-cluster (s .args .c) (s .args .o) d (omega arith)) (omega arith)) (puts-then (a .1) (b .1)),
+    )
+
+returns-3 : tie.Need-returns-3
+returns-3 c =
+    let s = c .before .before .before .before .before .before .before .before .before .before .before .before .before .before .before .before in
+    let a = c .before .before .before .before .before .before .before .before .before .before .put-count .ensures in
+    let b = c .before .before .before .before .before .before .put-row3 .ensures in
+    let f = c .before .before .put-entry2 .ensures in
+    let z = s .pre .1 in
+    rw (c .before .before .before .before .before .before .before .before .before .before .before .before .before .job3 .given .1) (
+      omega (arith, s .pre .0 .0, a .0, b .0, f .0),
+      λ d e. puts-same (rows-new _ _ _ (s .args .c) (cluster (s .args .c) (s .args .o) d) (length-cluster (s .args .c) (s .args .o) d (omega arith)) (omega arith) _ _ _) (puts-then (puts-then (a .1) (b .1)) (f .1)),
+    )
+
+returns-4 : tie.Need-returns-4
+returns-4 c =
+    let s = c .before .before .before .before .before .before .before .before in
+    let a = c .before .before .table-rows .ensures in
+    let z = s .pre .1 .0 in
+    rw (c .before .before .before .before .before .job4 .given .1) (a .0, λ d e. a .1 (s .args .o) d (omega arith))
+
+pub job-rows-spec : {M : Type 1} → statement M
+job-rows-spec =
+    tie.close
+    (tie.spec
+    (search needs)
+    add-put-row
+    (search needs)
+    (search needs)
+    (search needs)
+    (search needs)
+    (search needs)
+    put-count-requires
+    (search needs)
+    (search needs)
+    (search needs)
+    table-rows-requires
+    (search needs)
+    returns
+    (search needs)
+    returns-2
+    (search needs)
+    returns-3
+    (search needs)
+    returns-4)

@@ -1,0 +1,2 @@
+pub mod Unpacks
+pub mod Ups

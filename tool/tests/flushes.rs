@@ -1,0 +1,162 @@
+//! How often a change is flushed, and that none of these flushes can be spared:
+//! a drive that does not make one of them is found out.
+
+mod common;
+
+use ::made::image::{Kind, Made, AUTOCLEAR};
+use ::made::plan::bench_image;
+use ::made::rng::Rng;
+use common::drive::{all_torn, open, usable, Drive, Random};
+use common::promise::Promise;
+use qcow2_core::Outcome;
+use qstore::call::Call;
+use qstore::commands::{discard, repair, write};
+use qstore::ordered::Ordered;
+
+const TABLE: usize = 64;
+
+/// Of the guest clusters from 64 on the first has data, the second a zero mark
+/// and a place, the third a zero mark. Free clusters hold old bytes.
+fn image(bits: u64) -> Made {
+    let mut made = bench_image();
+    let table = made.add_table(1).expect("room");
+    for (index, kind) in
+        [Kind::Data, Kind::ZerosWithPlace, Kind::ZerosWithoutPlace].into_iter().enumerate()
+    {
+        assert!(made.add_entry(table, index, kind, &mut Rng::new(1)));
+    }
+    made.bytes[7 * 512..].fill(0xEE);
+    made.put64(AUTOCLEAR, bits);
+    made
+}
+
+fn write_to(guest: usize) -> Call<'static> {
+    Call::Write { offset: 512 * guest as u64, data: &[0x5A; 300] }
+}
+
+fn discard_of(guest: usize) -> Call<'static> {
+    Call::Discard { cluster: guest as u64 }
+}
+
+/// Each kind of call with its flushes.
+fn calls() -> [(Call<'static>, usize); 9] {
+    [
+        // In place; under a zero mark; a new cluster, twice; a new table too.
+        (write_to(TABLE), 1),
+        (write_to(TABLE + 1), 2),
+        (write_to(TABLE + 2), 2),
+        (write_to(TABLE + 3), 2),
+        (write_to(0), 2),
+        // Data; a zero mark and a place; a zero mark; nothing.
+        (discard_of(TABLE), 2),
+        (discard_of(TABLE + 1), 2),
+        (discard_of(TABLE + 2), 1),
+        (discard_of(TABLE + 3), 0),
+    ]
+}
+
+#[test]
+fn flushes_of_calls() {
+    for bits in [0, 1] {
+        for (call, flushes) in calls() {
+            let image = image(bits).bytes;
+            let mut ordered = Ordered::new(Drive::with(&image), image).unwrap();
+            assert!(matches!(ordered.call(&call, u64::MAX), Ok(Outcome::Finished(_))));
+            let wanted = flushes + usize::from(bits != 0 && flushes > 0);
+            let drive = ordered.into_disk();
+            assert_eq!((drive.flushes, drive.open.len()), (wanted, 0));
+        }
+    }
+}
+
+/// What is there already is not stored and not flushed, and neither is a refusal.
+#[test]
+fn nothing_to_store() {
+    let image = image(0).bytes;
+    let mut ordered = Ordered::new(Drive::with(&image), image).unwrap();
+    let past = Call::Discard { cluster: 128 };
+    for (call, flushes) in [(write_to(TABLE), 1), (write_to(TABLE), 1), (past, 1)] {
+        let _ = ordered.call(&call, u64::MAX).unwrap();
+        ordered.trial([write_to(3), discard_of(TABLE)].into_iter(), |_| ()).unwrap().unwrap();
+        let drive = ordered.into_disk();
+        assert_eq!((drive.flushes, drive.open.len()), (flushes, 0));
+        let cache = drive.cache.clone();
+        ordered = Ordered::new(drive, cache).unwrap();
+    }
+}
+
+#[test]
+fn flushes_of_a_repair() {
+    for bits in [0, 1] {
+        let mut made = image(bits);
+        [8, 9, 12, 15].into_iter().for_each(|cluster| made.set_count(cluster, 3));
+        let mut ordered = Ordered::new(Drive::with(&made.bytes), made.bytes).unwrap();
+        let units = 4 + bits;
+        assert_eq!(ordered.repair(u64::MAX, |_, _| ()).unwrap(), Outcome::Finished(units));
+        assert_eq!(ordered.into_disk().flushes, 1 + bits as usize);
+    }
+}
+
+/// The commands, each with the flush before it judges: three clusters written,
+/// the first with a table and the autoclear bits; discarded; one leak repaired.
+#[test]
+fn flushes_of_commands() {
+    let mut made = image(1);
+    made.set_count(15, 1);
+    let mut drive = Drive::with(&made.bytes);
+    let input = vec![7; 3 * 512];
+    assert!(write::run(open(&mut drive).ok().unwrap(), 0, &mut &input[..], u64::MAX).is_ok());
+    assert_eq!(drive.flushes, 1 + 1 + 3 * 2);
+    assert!(discard::run(open(&mut drive).ok().unwrap(), 0, 32_768, u64::MAX).is_ok());
+    assert_eq!(drive.flushes, 8 + 1 + 3 * 2);
+    assert!(repair::run(open(&mut drive).ok().unwrap(), u64::MAX, false).is_ok());
+    assert_eq!(drive.flushes, 15 + 1 + 1);
+    assert!(repair::run(open(&mut drive).ok().unwrap(), u64::MAX, false).is_ok());
+    assert_eq!(drive.flushes, 17 + 1);
+}
+
+/// For each call and each of its flushes but the last: without it a cut may leave
+/// what is not promised.
+#[test]
+fn a_flush_that_is_not_made() {
+    let mut random = Random(4);
+    for bits in [0, 1] {
+        for (call, flushes) in calls() {
+            let image = image(bits).bytes;
+            let promise = Promise::of(&image, &call);
+            let all = flushes + usize::from(bits != 0 && flushes > 0);
+            // The first flush comes before all else.
+            for deaf in 1..all {
+                let drive = Drive { deaf: Some(deaf), ..Drive::with(&image) };
+                let mut ordered = usable(drive);
+                assert!(matches!(ordered.call(&call, u64::MAX), Ok(Outcome::Finished(_))));
+                let states = all_torn(&image, &ordered.into_disk(), &mut random);
+                let faults = states.iter().filter(|state| promise.fault(state).is_some());
+                assert!(faults.count() > 0, "bits {bits}, flush {deaf} of {all}");
+            }
+        }
+    }
+}
+
+/// What is seen without the flush: damage, and bytes that are neither old nor
+/// new.
+#[test]
+fn faults_without_the_flush() {
+    let image = image(0).bytes;
+    let seen = |call: Call| -> Vec<String> {
+        let mut ordered = usable(Drive { deaf: Some(1), ..Drive::with(&image) });
+        ordered.call(&call, u64::MAX).unwrap();
+        let promise = Promise::of(&image, &call);
+        let states = all_torn(&image, &ordered.into_disk(), &mut Random(5));
+        states.iter().filter_map(|state| promise.fault(state)).collect()
+    };
+    let has = |faults: &[String], start: &str| faults.iter().any(|it| it.starts_with(start));
+    let new = seen(write_to(TABLE + 3));
+    assert!(has(&new, "Short(7)") && has(&new, "guest byte"), "{new:?}");
+    let table = seen(write_to(0));
+    assert!(has(&table, "BadL2(0, 0)") || has(&table, "Short"), "{table:?}");
+    let marked = seen(write_to(TABLE + 1));
+    assert!(has(&marked, "guest byte"), "{marked:?}");
+    let freed = seen(discard_of(TABLE));
+    assert!(has(&freed, "Short(5)"), "{freed:?}");
+}
