@@ -75,15 +75,102 @@ fn look(
         (listed, outcome) => panic!("{listed:?} for {outcome:?}: {request:?}"),
     };
     assert_eq!(steps.iter().map(|step| step.units).sum::<u64>(), units, "{request:?}");
-    are_apart(&steps, request);
-    are_all(image, &finished, &steps, request);
-    are_filled(side, image, request, &finished, &steps);
-    are_units(side, image, request, &steps, rng);
-    for epoch in 0..3 {
-        if steps.iter().any(|step| step.epoch == epoch) {
-            cut(series, image, request, &finished, &steps, epoch, rng);
-            met.cuts[epoch as usize] += 1;
+    let case = Case { side, series, image, request, finished, steps };
+    case.are_apart();
+    case.are_all();
+    case.are_filled();
+    case.are_units(rng);
+    for epoch in (0..3).filter(|epoch| case.steps.iter().any(|step| step.epoch == *epoch)) {
+        (0..6).for_each(|turn| case.cut(epoch, turn, rng));
+        met.cuts[epoch as usize] += 1;
+    }
+}
+
+/// A call that was not refused, with its steps.
+struct Case<'a> {
+    side: &'a dyn Calls,
+    series: &'a Series<'a>,
+    image: &'a [u8],
+    request: &'a Request,
+    finished: Vec<u8>,
+    steps: Vec<Step>,
+}
+
+impl Case<'_> {
+    /// Epochs rise, and no byte is in steps of two of them.
+    fn are_apart(&self) {
+        assert!(self.steps.is_sorted_by_key(|step| step.epoch), "{:?}", self.request);
+        for (index, one) in self.steps.iter().enumerate() {
+            for other in self.steps[index..].iter().filter(|other| other.epoch != one.epoch) {
+                let apart = one.range().end <= other.at || other.range().end <= one.at;
+                assert!(apart, "{one:?} and {other:?}: {:?}", self.request);
+            }
         }
+    }
+
+    /// What is changed is in a step.
+    fn are_all(&self) {
+        let mut brought = self.image.to_vec();
+        bring(&mut brought, &self.finished, &self.steps, |_| true);
+        assert!(brought == self.finished, "a change that no step has: {:?}", self.request);
+    }
+
+    /// All bytes of a fill are stored: what they were before does not matter.
+    fn are_filled(&self) {
+        // A write with nothing to link or to show has its data in place, which may
+        // be one byte.
+        let is_write = matches!(self.request, Request::Write { .. });
+        let in_place = is_write && self.steps.iter().all(|step| step.epoch < 2);
+        let is_fill = |step: &&Step| step.units > 1 || in_place && step.epoch == 1;
+        let mut other = self.image.to_vec();
+        for step in self.steps.iter().filter(is_fill) {
+            other[step.range()].iter_mut().for_each(|byte| *byte = !*byte);
+        }
+        let listed = steps(self.side, &other, self.request);
+        assert_eq!(listed.as_deref(), Ok(&self.steps[..]), "{:?}", self.request);
+        let stored = run(self.side, &other, self.request).1 == self.finished;
+        assert!(stored, "not stored: {:?}", self.request);
+    }
+
+    /// Each unit stores in its own place: of a fill one byte, else the step's.
+    fn are_units(&self, rng: &mut Rng) {
+        let after = |units| run(self.side, self.image, &with_allowance(self.request, units)).1;
+        let mut done = 0;
+        for step in self.steps.iter().take(8) {
+            let random = rng.below(step.units);
+            for unit in [0, random, step.units - 1] {
+                let place = match step.units {
+                    1 => step.range(),
+                    _ => step.at + unit as usize..step.at + unit as usize + 1,
+                };
+                let (mut fewer, more) = (after(done + unit), after(done + unit + 1));
+                fewer[place.clone()].copy_from_slice(&more[place]);
+                assert!(fewer == more, "unit {unit} of {step:?}: {:?}", self.request);
+            }
+            done += step.units;
+        }
+    }
+
+    /// A power cut in this epoch, which loses all of its sectors, none, or some;
+    /// then the request is made once more, or a repair.
+    fn cut(&self, epoch: u64, turn: u64, rng: &mut Rng) {
+        let seed = rng.number();
+        let kept = |sector: usize| match turn {
+            0 => false,
+            1 => true,
+            _ => Rng::new(seed ^ sector as u64).once_in(2),
+        };
+        let of = |wanted: fn(&u64, &u64) -> bool| -> Vec<Step> {
+            self.steps.iter().copied().filter(|step| wanted(&step.epoch, &epoch)).collect()
+        };
+        let mut now = self.image.to_vec();
+        bring(&mut now, &self.finished, &of(u64::lt), |_| true);
+        bring(&mut now, &self.finished, &of(u64::eq), kept);
+        let mut series = self.series.clone();
+        let holds = series.cut(self.image, call(self.request).0, &now);
+        holds.unwrap_or_else(|fault| panic!("{fault}: cut in epoch {epoch}: {:?}", self.request));
+        let repair = Request::Repair { scratch: 2 * now.len() / SECTOR, allowance: ALL };
+        step(&mut series, &mut now, if rng.once_in(2) { self.request } else { &repair });
     }
 }
 
@@ -98,94 +185,6 @@ pub fn steps(side: &dyn Calls, image: &[u8], request: &Request) -> Result<Vec<St
     let request = request.steps(rows.len());
     let count = list_steps(side, image, &request, &mut vec![0x5A; scratch], &mut rows)?;
     Ok(Step::of_rows(&rows[..STEP * count]).collect())
-}
-
-/// Epochs rise, and no byte is in steps of two of them.
-fn are_apart(steps: &[Step], request: &Request) {
-    assert!(steps.is_sorted_by_key(|step| step.epoch), "{request:?}");
-    for (index, one) in steps.iter().enumerate() {
-        for other in steps[index..].iter().filter(|other| other.epoch != one.epoch) {
-            let apart = one.range().end <= other.at || other.range().end <= one.at;
-            assert!(apart, "{one:?} and {other:?}: {request:?}");
-        }
-    }
-}
-
-/// What is changed is in a step.
-fn are_all(image: &[u8], finished: &[u8], steps: &[Step], request: &Request) {
-    let mut brought = image.to_vec();
-    bring(&mut brought, finished, steps, |_| true);
-    assert!(brought == finished, "a change that no step has: {request:?}");
-}
-
-/// All bytes of a fill are stored: what they were before does not matter.
-fn are_filled(side: &dyn Calls, image: &[u8], request: &Request, finished: &[u8], steps: &[Step]) {
-    // A write with nothing to link or to show has its data in place, which may be
-    // one byte.
-    let in_place =
-        matches!(request, Request::Write { .. }) && before(steps, 2).len() == steps.len();
-    let is_fill = |step: &&Step| step.units > 1 || in_place && step.epoch == 1;
-    let mut other = image.to_vec();
-    for step in steps.iter().filter(is_fill) {
-        other[step.range()].iter_mut().for_each(|byte| *byte = !*byte);
-    }
-    assert_eq!(self::steps(side, &other, request).as_deref(), Ok(steps), "{request:?}");
-    assert!(run(side, &other, request).1 == finished, "not stored: {request:?}");
-}
-
-/// Each unit stores in its own place: of a fill one byte, else the step's.
-fn are_units(side: &dyn Calls, image: &[u8], request: &Request, steps: &[Step], rng: &mut Rng) {
-    let mut done = 0;
-    for step in steps.iter().take(8) {
-        let random = rng.below(step.units);
-        for unit in [0, random, step.units - 1] {
-            let place = match step.units {
-                1 => step.range(),
-                _ => step.at + unit as usize..step.at + unit as usize + 1,
-            };
-            let at = |units| run(side, image, &with_allowance(request, units)).1;
-            let (mut fewer, more) = (at(done + unit), at(done + unit + 1));
-            fewer[place.clone()].copy_from_slice(&more[place]);
-            assert!(fewer == more, "unit {unit} of {step:?}: {request:?}");
-        }
-        done += step.units;
-    }
-}
-
-/// Power cuts in this epoch, each with other sectors lost; then the request is
-/// made once more, or a repair.
-fn cut(
-    series: &Series,
-    image: &[u8],
-    request: &Request,
-    finished: &[u8],
-    steps: &[Step],
-    epoch: u64,
-    rng: &mut Rng,
-) {
-    let scratch = 2 * image.len() / SECTOR;
-    let repair = Request::Repair { scratch, allowance: ALL };
-    for turn in 0..6 {
-        let seed = rng.number();
-        let kept = |sector: usize| match turn {
-            0 => false,
-            1 => true,
-            _ => Rng::new(seed ^ sector as u64).once_in(2),
-        };
-        let mut now = image.to_vec();
-        bring(&mut now, finished, &before(steps, epoch), |_| true);
-        let at_work: Vec<Step> = steps.iter().copied().filter(|it| it.epoch == epoch).collect();
-        bring(&mut now, finished, &at_work, kept);
-        let mut series = series.clone();
-        let holds = series.cut(image, call(request).0, &now);
-        holds.unwrap_or_else(|fault| panic!("{fault}: cut in epoch {epoch}: {request:?}"));
-        step(&mut series, &mut now, if rng.once_in(2) { request } else { &repair });
-    }
-}
-
-/// The steps of the epochs before this one.
-fn before(steps: &[Step], epoch: u64) -> Vec<Step> {
-    steps.iter().copied().filter(|step| step.epoch < epoch).collect()
 }
 
 /// Brings the steps' bytes in the sectors that are kept.
