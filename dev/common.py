@@ -1,7 +1,8 @@
-"""What the scripts of this folder share: the repository, its crates, rt, and must-fail edits."""
+"""What the scripts of this folder share: the repository, its crates, rt, and edits."""
 import argparse
 import pathlib
 import re
+import shutil
 import subprocess
 import sys
 
@@ -58,6 +59,19 @@ def rt(*words, root=ROOT):
     return run.returncode, run.stdout.decode(errors='replace')
 
 
+def copied(name, kind):
+    """A repository of this crate and those below it, in target/KIND/CRATE, over what is proved of them already."""
+    room = TARGET / kind / name
+    shutil.rmtree(room, ignore_errors=True)
+    (room / 'target').mkdir(parents=True)
+    shutil.copy(ROOT / 'crates.txt', room)
+    for each in reached(name):
+        shutil.copytree(ROOT / 'crates' / each, room / 'crates' / each, ignore=shutil.ignore_patterns('must-fail', 'wrong'))
+    for part in ('rlib', 'stamp'):
+        (room / 'target' / part).symlink_to(TARGET / part)
+    return room
+
+
 def pretty(text):
     """The same with shorter terms, by the kit's own tool, which would take the file lib.rt for a module."""
     tool = pathlib.Path(rt('doc')[1].strip()).parent.parent / 'tools/pretty.py'
@@ -90,7 +104,7 @@ def show(lines, cut, root=ROOT):
         print(line.replace(f'{root}/crates/', '')[:cut])
 
 
-# ---- must-fail edits
+# ---- edits
 
 class Fault(Exception):
     """Why an edit is none."""
@@ -107,17 +121,17 @@ def edit_pairs(path):
         elif line.startswith('new:') and old:
             pairs.append((name, old, line[len('new:'):].removeprefix(' ')))
             old = None
-        elif line.strip() and not line.startswith('#'):
+        elif line.strip() and not line.startswith(('#', 'at: ')):
             raise Fault(f'line {number} is no part of a pair: {line}')
     if old is not None or not pairs:
         raise Fault("an 'old:' line without its 'new:' line" if old else "no 'old:' and 'new:' pair")
     return pairs
 
 
-def edited(folder, path):
-    """The files of the crate that an edit changes, with their new text. Pairs are applied one after the other, as rt does."""
+def edited(folder, *paths):
+    """The files of the crate that edits change, with their new text. Pairs are applied one after the other, as rt does."""
     texts = {}
-    for name, old, new in edit_pairs(path):
+    for name, old, new in (pair for path in paths for pair in edit_pairs(path)):
         if not name or '..' in name.split('/') or name.split('/')[0] not in ('src', 'specs', 'proofs'):
             raise Fault(f"'file: {name}' is no file under src/, specs/ or proofs/")
         if not (folder / name).is_file():

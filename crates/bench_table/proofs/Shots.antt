@@ -1,6 +1,5 @@
--- The table of the image with two snapshots, proved by computation.
+-- What the table of the image with two snapshots computes with.
 -- Assumes nothing.
-use mathlib.Core.Path.{refl}
 use Rattle.endian.specs.Big.{be16, be32, be64, bytes16, bytes32, bytes64, entries}
 use Rattle.widths.specs.Width.{be, bytes, span, field, merge, number, stored}
 use Rattle.units.specs.Units.{apply, applyAll, fill, cluster}
@@ -14,21 +13,8 @@ use Rattle.qcow2_spec.specs.Store.{ownSlot, ownWay, clearUnits, clearing, judge
 use Rattle.qcow2_spec.specs.References.{l1Entries, l2Entries, named, l2Refs, tableRefs, l1Refs, rootRun, snapshotRun, fixedRefs, rootRefs, tablesIn, dataIn, references, figuresOf}
 use Rattle.qcow2_spec.specs.Check.{difference, l2Verdict, entryVerdict, l1Verdict, badIn, rootsVerdict, rightMark, wrongMarks, sharedBy, sharedAt, short, over, countsVerdict, verdict, repairUnits, verdictPlan, repairPlan}
 use Rattle.bench_table.specs.Table.{cost}
-use Rattle.bench_table.specs.Shots.{shots, counts, twoBits, sixtyFourBits, Shots, Wrong, Widths}
+use Rattle.bench_table.specs.Shots.{shots, counts, twoBits, sixtyFourBits}
 
--- what an example computes with
-unfoldable computing : Unit {0}
+unfoldable pub computing : Unit {0}
 unfolding be16 be32 be64 bytes16 bytes32 bytes64 entries be bytes span field merge number stored version clusterSize clusters diskSize l1Size l1At tableAt tableClusters countOrder width perBlock blocks perTable table blockAt goodBlock goodTable unsupported tooBig oddSize badTables headerNumber tableNumber snapshots snapshotsAt entryEnd snapshotAt roots rootSize rootAt badSnapshot snapshotNumber judge countAt countOf freeAt freeFrom place alone goodPlace common goodL1 goodL2 compressed zeroMark l1EntryAt l1Entry way entryWay l2Way entryGives wayGives located translate foundByte guestByte guestBytes wayNumber waysNumber reach outside touched readNumber apply applyAll setCount fill cluster newEntry autoclear ownSlot ownWay clearUnits clearing judged allot writeNew writeTable writeSlot writeWay writePlan discardSlot discardWay discardPlan planUnits planNumber after run l1Entries l2Entries named l2Refs tableRefs l1Refs rootRun snapshotRun fixedRefs rootRefs tablesIn dataIn references occurrences figures figuresOf short over l2Verdict entryVerdict l1Verdict badIn rootsVerdict rightMark wrongMarks sharedBy sharedAt countsVerdict verdict free repairUnits verdictPlan repairPlan difference cost shots counts twoBits sixtyFourBits
 computing = tt
-
-pub right-answers : Shots
-unfolding computing
-right-answers = record { accepted = refl; sound = refl; counted = refl; table-kept = refl; mark-kept = refl; own-written = refl; own-freed = refl; own-new = refl; reads-0 = refl; reads-1 = refl; reach-1 = refl; past-1 = refl; past-0 = refl; none-2 = refl }
-
-pub wrong-images : Wrong
-unfolding computing
-wrong-images = record { many = refl; askew = refl; past = refl; past-last = refl; l1-past = refl; l1-to-end = refl; rows = refl; place = refl; bad-snapshot = refl; bad-l1 = refl; shared-roles = refl; shared-once = refl; shared-table = refl; short = refl; leak = refl; mark-1 = refl; mark-2 = refl; mark-unseen = refl }
-
-pub other-widths : Widths
-unfolding computing
-other-widths = record { two = refl; two-leak = refl; two-cost = refl; two-mended = refl; two-sound = refl; one-short = refl; wide = refl; wide-leak = refl; wide-difference = refl; wide-mended = refl }

@@ -1,5 +1,5 @@
 -- An image with two snapshots, and what the calls answer on it and on images with one thing changed. Paper 02, T-11 and T-06. It is proved in
--- proofs/Shots.antt.
+-- crates bench_snapshots and bench_damaged.
 -- Assumes nothing.
 use Prim.Native.Nat.{ℕ, _+_, _*_, _^_}
 use mathlib.Core.Path.{_≡_}

@@ -1,5 +1,5 @@
 -- The starred lines of paper 01, "The bench image", its lines on the header, paper 02's T-03 on that image, and runs of its bytes, as one
--- table. It is proved in proofs/Table.antt.
+-- table. It is proved in crate bench_starred.
 -- Assumes nothing.
 use Prim.Native.Nat.{ℕ}
 use mathlib.Core.Path.{_≡_}

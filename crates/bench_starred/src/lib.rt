@@ -1,0 +1,1 @@
+// The starred lines are joined in proofs/: no code is here.

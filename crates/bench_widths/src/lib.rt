@@ -1,0 +1,1 @@
+// The lines on the bench image with counts of other widths are in proofs/: no code is here.
