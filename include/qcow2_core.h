@@ -12,6 +12,9 @@
  *   - image, n: the bytes of the whole image file. qcow2_write, qcow2_discard
  *     and qcow2_repair change them; the others only read them. Every call
  *     judges the header afresh and accepts any bytes whatever.
+ *   - backing, b: the bytes of the image's backing file, whole, the same for
+ *     every call on that image. No call changes them. Where the image names no
+ *     backing file they are not looked at, whatever they are.
  *   - out, data, scratch: bytes of the caller, with their length.
  *   - rows: numbers of 64 bits of the caller, with how many there are.
  *   - host, units, first, second, third, count, cluster_bits, size, clusters: one
@@ -24,6 +27,12 @@
  *   overlap anything else that the call is lent. Bytes need no alignment, numbers
  *   that of uint64_t. Lengths are at most PTRDIFF_MAX.
  *
+ * Two forms of each call
+ *   qcow2_backed_read and the like are the functions of the library; they are
+ *   lent the backing file's bytes after the image. qcow2_read and the like are
+ *   the same with no such bytes: an image with a backing file is then refused
+ *   with 19.
+ *
  * Words
  *   C is the cluster size, 2 to the power cluster_bits; N = n / C the clusters
  *   of the image; size the guest disk's length in bytes. A stored count is a
@@ -35,6 +44,10 @@
  *   table of its own, and shares with it and with other snapshots the L2 tables
  *   and the data that were not written since. Bit 63 of an active L1 or L2 entry
  *   says that what it names has no other reference.
+ *   The backing file is a raw disk underneath. The image's header has its name,
+ *   which nothing here opens. What is not allocated reads as the backing file's
+ *   bytes at the same guest offset, and as zeros past their end; a zero mark
+ *   reads as zeros.
  *   A unit is the storing of one count, of one L1 or L2 entry, of the autoclear
  *   field, or of one byte of a fill. One that stores a count below 8 bits leaves
  *   the other counts of the byte as they stand then.
@@ -45,8 +58,8 @@
  *   they were, but for QCOW2_DAMAGED_IMAGE (17), which fills the scratch as the
  *   check does; and each number that the call stores, as *host or *count, is 0.
  *   1001 and up are the other answers. The header's numbers are tried first, in
- *   the order 1 to 8, 18, 9, 10, 21, then 15 or 11, then 12, 13 and 22 on the way
- *   through the tables, then 14 or 16.
+ *   the order 1 to 8, 18, 9, 10, 19, 21, then 15 or 11, then 12, 13 and 22 on the
+ *   way through the tables, then 20, then 14 or 16.
  */
 #ifndef QCOW2_CORE_H
 #define QCOW2_CORE_H
@@ -73,9 +86,8 @@ extern "C" {
 #define QCOW2_WRONG_CLUSTER_BITS 4u
 /* n is not a whole number of clusters, or is above 1,073,741,824. */
 #define QCOW2_WRONG_LENGTH 5u
-/* A backing file, encryption or more than 64 snapshots; in version 3 also a
- * refcount_order above 6 (counts of more than 64 bits) or a header_length other
- * than 104. */
+/* Encryption or more than 64 snapshots; in version 3 also a refcount_order above
+ * 6 (counts of more than 64 bits) or a header_length other than 104. */
 #define QCOW2_NOT_SUPPORTED 6u
 /* Version 3: a bit of incompatible_features is set. */
 #define QCOW2_INCOMPATIBLE 7u
@@ -90,6 +102,9 @@ extern "C" {
 /* A refcount table entry is wrong: one that has to name a refcount block names
  * none inside the image, or one after the last needed is not 0. */
 #define QCOW2_WRONG_BLOCK 10u
+/* There is a backing file, and its name has not 1 to 1,023 bytes or does not lie
+ * inside the first cluster; or none of its bytes are lent. */
+#define QCOW2_WRONG_BACKING 19u
 /* There are snapshots, and their table does not start at a cluster or an entry
  * of it runs past the image; or a snapshot's L1 table has more than 65,536
  * entries, does not start at a cluster or runs past the image. */
@@ -109,6 +124,9 @@ extern "C" {
  * and bit 63 clear: a snapshot may need what is there. Tried for the L1 entry
  * after 12, for the L2 entry after 13 and 12. */
 #define QCOW2_HELD_BY_SNAPSHOT 22u
+/* A discard that would let the backing file show: in version 2, which has no zero
+ * marks, or where there is no L2 table that could have one. */
+#define QCOW2_BACKING_SHOWS 20u
 /* A write needs new clusters, one or two, and fewer have the stored count 0. */
 #define QCOW2_NO_ROOM 14u
 /* The scratch of a check or repair is shorter than 2N bytes. */
@@ -124,7 +142,8 @@ extern "C" {
 #define QCOW2_STOPPED 1001u
 /* The guest offset reads as zeros (translate, runs). */
 #define QCOW2_ZEROS 1002u
-/* The guest offset is not allocated, so it reads as zeros (translate, runs). */
+/* The guest offset is not allocated: it reads as the backing file's byte, or as
+ * zero where there is none (translate, runs). */
 #define QCOW2_ABSENT 1003u
 /* Leaking: counts above their references, nothing worse (check). */
 #define QCOW2_LEAKS 1004u
@@ -149,28 +168,40 @@ extern "C" {
 
 /*
  * What the header of an accepted image gives: QCOW2_DONE, and *cluster_bits, the
- * disk's *size in bytes and the image's *clusters. Else 1 to 10, 18 or 21, and
- * all three are 0.
+ * disk's *size in bytes and the image's *clusters. Else 1 to 10, 18, 19 or 21,
+ * and all three are 0.
  */
-uint32_t qcow2_geometry(const uint8_t *image, size_t n, uint64_t *cluster_bits, uint64_t *size,
-                        uint64_t *clusters);
+uint32_t qcow2_backed_geometry(const uint8_t *image, size_t n, const uint8_t *backing, size_t b,
+                               uint64_t *cluster_bits, uint64_t *size, uint64_t *clusters);
+
+/*
+ * Where the name of the backing file stands in the image, and how many bytes it
+ * has: QCOW2_DONE, *at and *len, both 0 where there is no backing file. Else 1 to
+ * 10, 18, 21, or 19 for a bad name, and both are 0. The name is any bytes, not
+ * ended by a 0, and comes from whoever made the image: opening the file that it
+ * names may give that person any file of yours to read.
+ */
+uint32_t qcow2_backing_name(const uint8_t *image, size_t n, uint64_t *at, uint64_t *len);
 
 /* ---- Reading ------------------------------------------------------------- */
 
 /*
  * Where one guest offset lies. QCOW2_DONE gives its place in the image in *host;
- * QCOW2_ZEROS and QCOW2_ABSENT say that there is none; else 1 to 13, 18 or 21.
+ * QCOW2_ZEROS and QCOW2_ABSENT say that there is none; else 1 to 13, 18, 19 or
+ * 21.
  * *host is 0 for every other answer than QCOW2_DONE. An offset at or past size
  * is 11.
  */
-uint32_t qcow2_translate(const uint8_t *image, size_t n, uint64_t offset, uint64_t *host);
+uint32_t qcow2_backed_translate(const uint8_t *image, size_t n, const uint8_t *backing, size_t b,
+                                uint64_t offset, uint64_t *host);
 
 /*
  * Reads out_len guest bytes from offset on. QCOW2_DONE: out is filled whole.
- * Else 1 to 13, 18 or 21, and out is as it was. Length 0 at or before the
+ * Else 1 to 13, 18, 19 or 21, and out is as it was. Length 0 at or before the
  * disk's end is done.
  */
-uint32_t qcow2_read(const uint8_t *image, size_t n, uint64_t offset, uint8_t *out, size_t out_len);
+uint32_t qcow2_backed_read(const uint8_t *image, size_t n, const uint8_t *backing, size_t b,
+                           uint64_t offset, uint8_t *out, size_t out_len);
 
 /*
  * The same of the disk that a snapshot has kept. Snapshots are numbered from 0,
@@ -178,8 +209,9 @@ uint32_t qcow2_read(const uint8_t *image, size_t n, uint64_t offset, uint8_t *ou
  * ends: its entries times C / 8 times C, whatever the size was. A snapshot that
  * is not there is 11, whatever is asked of it.
  */
-uint32_t qcow2_read_snapshot(const uint8_t *image, size_t n, uint64_t snapshot, uint64_t offset,
-                             uint8_t *out, size_t out_len);
+uint32_t qcow2_backed_read_snapshot(const uint8_t *image, size_t n, const uint8_t *backing,
+                                    size_t b, uint64_t snapshot, uint64_t offset, uint8_t *out,
+                                    size_t out_len);
 
 /*
  * How many guest bytes from offset on lie in one piece in the image: to the end
@@ -187,7 +219,8 @@ uint32_t qcow2_read_snapshot(const uint8_t *image, size_t n, uint64_t snapshot, 
  * that qcow2_translate gives. 0 where translation gives no host offset; the
  * number of a refusal is had from qcow2_translate.
  */
-size_t qcow2_lookup(const uint8_t *image, size_t n, uint64_t offset);
+size_t qcow2_backed_lookup(const uint8_t *image, size_t n, const uint8_t *backing, size_t b,
+                           uint64_t offset);
 
 /*
  * Lists the runs of the len guest bytes from offset on. A run is bytes that go
@@ -202,12 +235,13 @@ size_t qcow2_lookup(const uint8_t *image, size_t n, uint64_t offset);
  *
  * QCOW2_DONE: *count runs are listed, m / 3 at most (m numbers are lent), one
  * after the other; the rest of rows is as it was. Where their lengths fall short
- * of len, call again from there on. Else 1 to 11, 18 or 21, *count is 0, and
+ * of len, call again from there on. Else 1 to 11, 18, 19 or 21, *count is 0, and
  * rows are as they were. Length 0 at or before the disk's end is done with no
  * run, and so is m below 3: *count is 0.
  */
-uint32_t qcow2_runs(const uint8_t *image, size_t n, uint64_t offset, uint64_t len, uint64_t *rows,
-                    size_t m, uint64_t *count);
+uint32_t qcow2_backed_runs(const uint8_t *image, size_t n, const uint8_t *backing, size_t b,
+                           uint64_t offset, uint64_t len, uint64_t *rows, size_t m,
+                           uint64_t *count);
 
 /* ---- Storing -------------------------------------------------------------
  *
@@ -231,32 +265,36 @@ uint32_t qcow2_runs(const uint8_t *image, size_t n, uint64_t offset, uint64_t le
  */
 
 /*
- * Writes len bytes at offset, inside one guest cluster. Else 1 to 14, 18, 21 or
- * 22. The lists: data in place, len units; a zero mark with a place, the cluster
- * and the entry, C + 1; a new cluster, its count, the cluster and the entry,
- * C + 2; a new L2 table too, 2C + 4.
+ * Writes len bytes at offset, inside one guest cluster. Else 1 to 14, 18, 19, 21
+ * or 22. The lists: data in place, len units; a zero mark with a place, the
+ * cluster and the entry, C + 1; a new cluster, its count, the cluster and the
+ * entry, C + 2; a new L2 table too, 2C + 4. Around the data a new cluster has the
+ * backing file's bytes, and zeros past their end, past the disk's end, or where
+ * there was a zero mark.
  */
-uint32_t qcow2_write(uint8_t *image, size_t n, uint64_t offset, const uint8_t *data, size_t len,
-                     uint64_t allowance, uint64_t *units);
+uint32_t qcow2_backed_write(uint8_t *image, size_t n, const uint8_t *backing, size_t b,
+                            uint64_t offset, const uint8_t *data, size_t len, uint64_t allowance,
+                            uint64_t *units);
 
 /*
- * Discards the guest cluster of this number (guest offset / C). Else 1 to 13,
- * 16, 18, 21 or 22. The list: the L2 entry set to 0, then the count less one;
- * shorter where less is there.
+ * Discards the guest cluster of this number (guest offset / C). Else 1 to 13, 16
+ * or 18 to 22. The list: the L2 entry set to 0, then the count less one; shorter
+ * where less is there. Over a backing file the entry becomes the zero mark alone,
+ * the number 1, also where it was 0.
  */
-uint32_t qcow2_discard(uint8_t *image, size_t n, uint64_t cluster, uint64_t allowance,
-                       uint64_t *units);
+uint32_t qcow2_backed_discard(uint8_t *image, size_t n, const uint8_t *backing, size_t b,
+                              uint64_t cluster, uint64_t allowance, uint64_t *units);
 
 /*
  * Sets each count of a leaking image that is above its references to them,
  * rising by cluster, one unit each. A sound image has an empty list. Else 1 to
- * 10, 15, 17, 18 or 21. Unless refused with 1 to 15, 18 or 21, scratch[0..2N]
+ * 10, 15, 17 to 19 or 21. Unless refused with 1 to 15, 18, 19 or 21, scratch[0..2N]
  * ends as the check would leave it for the image as it was on entry, whatever
  * the allowance. Where the autoclear field is not zero, what looks leaked may
  * belong to a feature of its bits, such as qemu's persistent bitmaps.
  */
-uint32_t qcow2_repair(uint8_t *image, size_t n, uint8_t *scratch, size_t m, uint64_t allowance,
-                      uint64_t *units);
+uint32_t qcow2_backed_repair(uint8_t *image, size_t n, const uint8_t *backing, size_t b,
+                             uint8_t *scratch, size_t m, uint64_t allowance, uint64_t *units);
 
 /* ---- Steps ---------------------------------------------------------------
  *
@@ -289,23 +327,26 @@ uint32_t qcow2_repair(uint8_t *image, size_t n, uint8_t *scratch, size_t m, uint
  */
 
 /* Of qcow2_write with len bytes, whatever they are. */
-uint32_t qcow2_write_steps(const uint8_t *image, size_t n, uint64_t offset, uint64_t len,
-                           uint64_t *rows, size_t m, uint64_t *count);
+uint32_t qcow2_backed_write_steps(const uint8_t *image, size_t n, const uint8_t *backing, size_t b,
+                                  uint64_t offset, uint64_t len, uint64_t *rows, size_t m,
+                                  uint64_t *count);
 
 /* Of qcow2_discard. */
-uint32_t qcow2_discard_steps(const uint8_t *image, size_t n, uint64_t cluster, uint64_t *rows,
-                             size_t m, uint64_t *count);
+uint32_t qcow2_backed_discard_steps(const uint8_t *image, size_t n, const uint8_t *backing,
+                                    size_t b, uint64_t cluster, uint64_t *rows, size_t m,
+                                    uint64_t *count);
 
 /* Of qcow2_repair. The scratch ends as the repair leaves it. */
-uint32_t qcow2_repair_steps(const uint8_t *image, size_t n, uint8_t *scratch, size_t scratch_len,
-                            uint64_t *rows, size_t m, uint64_t *count);
+uint32_t qcow2_backed_repair_steps(const uint8_t *image, size_t n, const uint8_t *backing, size_t b,
+                                   uint8_t *scratch, size_t scratch_len, uint64_t *rows, size_t m,
+                                   uint64_t *count);
 
 /* ---- Checking ------------------------------------------------------------ */
 
 /*
  * Counts the references, on every path from every L1 table, and judges the
  * stored counts by them. scratch has m bytes, at least 2N. Unless refused (1 to
- * 10, 15, 18, 21), scratch[0..2N] ends as the references of each cluster, two
+ * 10, 15, 18, 19, 21), scratch[0..2N] ends as the references of each cluster, two
  * big-endian bytes each, with 65,535 for more; the rest is as it was.
  *
  *   QCOW2_DONE    sound; *first: 0
@@ -331,14 +372,95 @@ uint32_t qcow2_repair_steps(const uint8_t *image, size_t n, uint8_t *scratch, si
  * entry with a place is right if it is set exactly where that place has one
  * reference.
  */
-uint32_t qcow2_check(const uint8_t *image, size_t n, uint8_t *scratch, size_t m, uint64_t *first,
-                     uint64_t *second, uint64_t *third);
+uint32_t qcow2_backed_check(const uint8_t *image, size_t n, const uint8_t *backing, size_t b,
+                            uint8_t *scratch, size_t m, uint64_t *first, uint64_t *second,
+                            uint64_t *third);
 
 /*
  * A cluster's stored count less the scratch's figure, from -65,535 up, and
  * 65,535 where it is more. Below zero the cluster is short, above zero it leaks.
  */
 int32_t qcow2_difference(uint64_t stored, uint16_t figure);
+
+/* ---- The same calls with no backing file lent ------------------------------ */
+
+static inline uint32_t qcow2_geometry(const uint8_t *image, size_t n, uint64_t *cluster_bits,
+                                      uint64_t *size, uint64_t *clusters)
+{
+    return qcow2_backed_geometry(image, n, image, 0, cluster_bits, size, clusters);
+}
+
+static inline uint32_t qcow2_translate(const uint8_t *image, size_t n, uint64_t offset,
+                                       uint64_t *host)
+{
+    return qcow2_backed_translate(image, n, image, 0, offset, host);
+}
+
+static inline uint32_t qcow2_read(const uint8_t *image, size_t n, uint64_t offset, uint8_t *out,
+                                  size_t out_len)
+{
+    return qcow2_backed_read(image, n, image, 0, offset, out, out_len);
+}
+
+static inline uint32_t qcow2_read_snapshot(const uint8_t *image, size_t n, uint64_t snapshot,
+                                           uint64_t offset, uint8_t *out, size_t out_len)
+{
+    return qcow2_backed_read_snapshot(image, n, image, 0, snapshot, offset, out, out_len);
+}
+
+static inline size_t qcow2_lookup(const uint8_t *image, size_t n, uint64_t offset)
+{
+    return qcow2_backed_lookup(image, n, image, 0, offset);
+}
+
+static inline uint32_t qcow2_runs(const uint8_t *image, size_t n, uint64_t offset, uint64_t len,
+                                  uint64_t *rows, size_t m, uint64_t *count)
+{
+    return qcow2_backed_runs(image, n, image, 0, offset, len, rows, m, count);
+}
+
+static inline uint32_t qcow2_write(uint8_t *image, size_t n, uint64_t offset, const uint8_t *data,
+                                   size_t len, uint64_t allowance, uint64_t *units)
+{
+    return qcow2_backed_write(image, n, image, 0, offset, data, len, allowance, units);
+}
+
+static inline uint32_t qcow2_discard(uint8_t *image, size_t n, uint64_t cluster, uint64_t allowance,
+                                     uint64_t *units)
+{
+    return qcow2_backed_discard(image, n, image, 0, cluster, allowance, units);
+}
+
+static inline uint32_t qcow2_repair(uint8_t *image, size_t n, uint8_t *scratch, size_t m,
+                                    uint64_t allowance, uint64_t *units)
+{
+    return qcow2_backed_repair(image, n, image, 0, scratch, m, allowance, units);
+}
+
+static inline uint32_t qcow2_write_steps(const uint8_t *image, size_t n, uint64_t offset,
+                                         uint64_t len, uint64_t *rows, size_t m, uint64_t *count)
+{
+    return qcow2_backed_write_steps(image, n, image, 0, offset, len, rows, m, count);
+}
+
+static inline uint32_t qcow2_discard_steps(const uint8_t *image, size_t n, uint64_t cluster,
+                                           uint64_t *rows, size_t m, uint64_t *count)
+{
+    return qcow2_backed_discard_steps(image, n, image, 0, cluster, rows, m, count);
+}
+
+static inline uint32_t qcow2_repair_steps(const uint8_t *image, size_t n, uint8_t *scratch,
+                                          size_t scratch_len, uint64_t *rows, size_t m,
+                                          uint64_t *count)
+{
+    return qcow2_backed_repair_steps(image, n, image, 0, scratch, scratch_len, rows, m, count);
+}
+
+static inline uint32_t qcow2_check(const uint8_t *image, size_t n, uint8_t *scratch, size_t m,
+                                   uint64_t *first, uint64_t *second, uint64_t *third)
+{
+    return qcow2_backed_check(image, n, image, 0, scratch, m, first, second, third);
+}
 
 #ifdef __cplusplus
 }

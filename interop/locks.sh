@@ -32,6 +32,22 @@ said() { # COMMAND..
 
 changed() { cmp -s a b && echo no || echo yes; }
 
+# qstore waits for its input, with all locks of a change taken.
+wait_for_input() { # of a write to a
+    rm -f input; mkfifo input
+    "$QSTORE" write a 5000 < input > output & waiting=$!
+    exec 9> input
+    for _ in $(seq 200); do
+        grep -q ":$(stat -c %i a) 200 203\$" /proc/locks && break
+        sleep 0.05
+    done
+}
+
+end_input() {
+    cat data >&9; exec 9>&-
+    wait $waiting && text=written || text=failed
+}
+
 echo "== Locks: the exit code and what is said"
 create a 1M -o compat=0.10; fill a; pad a; echo hello > data
 nbd a; cp a b
@@ -47,20 +63,12 @@ expect "qemu reads: qstore write" "$(said "$QSTORE" write a 5000)" '1 open'
 expect "  check, the file changed" "$(said "$QSTORE" check a), $(changed)" '0 sound, no'
 end_nbd
 
-# qstore waits for its input, with its locks taken.
-mkfifo input
-"$QSTORE" write a 5000 < input > output & waiting=$!
-exec 9> input
-for _ in $(seq 200); do
-    grep -q ":$(stat -c %i a) 200 203\$" /proc/locks && break
-    sleep 0.05
-done
+wait_for_input
 expect "qstore waits to write: qemu-io write" "$(said qemu-io -f qcow2 -c 'write 0 512' a)" '1 no lock'
 expect "  qemu-img info, check" "$(said qemu-img info a), $(said qemu-img check a)" '1 no lock, 1 no lock'
 expect "  another qstore write" "$(said "$QSTORE" write a 0)" '1 open for writing'
 expect "  qstore check, check --share" "$(said "$QSTORE" check a), $(said "$QSTORE" check a --share)" \
     '1 open for writing, 0 note, sound'
 expect "  the file changed" "$(changed)" no
-cat data >&9; exec 9>&-
-wait $waiting && text=written || text=failed
+end_input
 expect "  its input ends" "$text, $("$QSTORE" read a 5000 5), $(theirs a)" 'written, hello, sound'

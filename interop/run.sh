@@ -118,7 +118,7 @@ for bits in 1 2 4 8 32 64; do
 done
 create a 1M -o refcount_bits=128 2> /dev/null && text=made || text=refused
 expect "-o refcount_bits=128, by qemu" "$text" refused
-create b 1M; create a 1M -b b -F qcow2; made "-b (backing file)" a 'refused 5; refused 6; refused 6'
+create b 1M; create a 1M -b b -F qcow2; made "-b (backing file), none given" a 'refused 5; refused 6; refused 19'
 # qemu measures the machine for it, and fails at times where that is busy.
 for _ in $(seq 30); do
     create a 1M --object secret,id=s,data=x -o encrypt.format=luks,encrypt.key-secret=s 2> /dev/null && break
@@ -145,6 +145,7 @@ made "convert -c (compressed clusters)" a 'refused 5; refused 6; damaged'
 . "$here/bitmaps.sh"
 . "$here/advice.sh"
 . "$here/locks.sh"
+. "$here/backing.sh"
 
 echo "== $same as expected, $other otherwise"
 [ "$other" = 0 ]

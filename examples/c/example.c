@@ -1,7 +1,8 @@
 /*
  * The core from C: makes an image in memory, writes, cuts a write as a power
- * cut would, checks, repairs, reads back, and takes a snapshot. Prints each step
- * and returns 0 only if every answer is the expected one.
+ * cut would, checks, repairs, reads back, takes a snapshot, and goes over a
+ * backing file. Prints each step and returns 0 only if every answer is the
+ * expected one.
  *
  *   gcc -Wall -Wextra -std=c11 -I../../include example.c ../../target/staticlib/libqcow2_c.a -o example
  * or: make run
@@ -251,6 +252,38 @@ static void snapshots(void)
     expect("65 snapshots: refused", check(&first), QCOW2_NOT_SUPPORTED);
 }
 
+/* A new image over a raw disk of 600 bytes: what was not written is read from it. */
+static void backing_file(void)
+{
+    static uint8_t under[600];
+    uint64_t units = 0, first = 0, at = 0, len = 0;
+    uint8_t out[4];
+    make_image();
+    memset(under, 'u', sizeof under);
+    memcpy(image + 104, "base.raw", 8);
+    store(8, 104, 8);           /* backing_file_offset */
+    store(16, 8, 4);            /* backing_file_size */
+    expect("name of the backing file: done", qcow2_backing_name(image, LENGTH, &at, &len), QCOW2_DONE);
+    expect("  the name", len == 8 && memcmp(image + at, "base.raw", 8) == 0, 1);
+    expect("read with none of its bytes lent: refused", qcow2_read(image, LENGTH, 0, out, 4),
+           QCOW2_WRONG_BACKING);
+    expect("read over its end: done",
+           qcow2_backed_read(image, LENGTH, under, sizeof under, 598, out, 4), QCOW2_DONE);
+    expect("  two of its bytes, then zeros", memcmp(out, "uu\0\0", 4) == 0, 1);
+    expect("write of one byte: done",
+           qcow2_backed_write(image, LENGTH, under, sizeof under, 513, (const uint8_t *)"x", 1,
+                              UINT64_MAX, &units), QCOW2_DONE);
+    expect("  its bytes around the data", memcmp(image + 5 * CLUSTER, "uxu", 3) == 0, 1);
+    expect("discard of what lies in it alone: done",
+           qcow2_backed_discard(image, LENGTH, under, sizeof under, 0, UINT64_MAX, &units), QCOW2_DONE);
+    expect("  units, for a zero mark", units, 1);
+    expect("  read: done", qcow2_backed_read(image, LENGTH, under, sizeof under, 510, out, 4),
+           QCOW2_DONE);
+    expect("  zeros, then what was written", memcmp(out, "\0\0ux", 4) == 0, 1);
+    store(8, 505, 8);
+    expect("a name past the first cluster: refused", check(&first), QCOW2_WRONG_BACKING);
+}
+
 int main(void)
 {
     uint64_t first = 0;
@@ -264,6 +297,7 @@ int main(void)
     discard();
     narrow_counts();
     snapshots();
+    backing_file();
     puts(failed ? "example: WRONG" : "example: all as expected");
     return failed;
 }

@@ -12,6 +12,9 @@ pub struct Options {
     pub share: bool,
     /// Look at it as if it were padded and its header_length set back.
     pub as_if_mended: bool,
+    /// The backing file, and whether it is a raw disk however it begins.
+    pub backing: Option<PathBuf>,
+    pub as_raw: bool,
     pub command: Command,
 }
 
@@ -101,9 +104,13 @@ pub fn parse(args: impl IntoIterator<Item = OsString>) -> Result<Parsed, String>
     if let Some(extra) = given.next() {
         return Err(format!("{name}: '{}' is one operand too many", extra.to_string_lossy()));
     }
-    let (json, share, as_if_mended) = (line.json, line.share, line.as_if_mended);
+    if line.as_raw && line.backing.is_none() {
+        return Err(format!("{name}: --as-raw is about the file of --backing, which is missing"));
+    }
+    let Line { json, share, as_if_mended, as_raw, .. } = line;
+    let backing = line.backing.as_ref().map(PathBuf::from);
     let command = command(name, &numbers, line);
-    Ok(Parsed::Run(Options { json, image, share, as_if_mended, command }))
+    Ok(Parsed::Run(Options { json, image, share, as_if_mended, backing, as_raw, command }))
 }
 
 /// Does the line ask for JSON, wherever it is wrong?
@@ -124,6 +131,7 @@ fn command(name: &str, numbers: &[u64], line: Line) -> Command {
     }
 }
 
+#[derive(Default)]
 struct Line {
     operands: Vec<OsString>,
     json: bool,
@@ -132,6 +140,8 @@ struct Line {
     force: bool,
     share: bool,
     as_if_mended: bool,
+    backing: Option<OsString>,
+    as_raw: bool,
 }
 
 /// Operands and options; None if help is asked for.
@@ -139,15 +149,7 @@ fn line(
     mut args: impl Iterator<Item = OsString>,
     options: &[&str],
 ) -> Result<Option<Line>, String> {
-    let mut line = Line {
-        operands: Vec::new(),
-        json: false,
-        allowance: u64::MAX,
-        snapshot: None,
-        force: false,
-        share: false,
-        as_if_mended: false,
-    };
+    let mut line = Line { allowance: u64::MAX, ..Line::default() };
     while let Some(arg) = args.next() {
         match arg.to_str() {
             Some("--") => {
@@ -156,6 +158,13 @@ fn line(
             }
             Some("--help" | "-h") => return Ok(None),
             Some("--json") => line.json = true,
+            Some("--as-raw") => line.as_raw = true,
+            Some("--backing") => {
+                let file = args.next().ok_or("--backing: the name of a file is missing")?;
+                if line.backing.replace(file).is_some() {
+                    return Err("--backing: one file alone can lie under an image".into());
+                }
+            }
             Some("--force") if options.contains(&"--force") => line.force = true,
             Some("--share") if options.contains(&"--share") => line.share = true,
             Some("--as-if-mended") if options.contains(&"--as-if-mended") => {
@@ -211,7 +220,12 @@ mod tests {
         assert_eq!(run("check a").unwrap().command, Command::Check);
         assert_eq!(run("map -").unwrap().command, Command::Map);
         let options = run("check a --share --as-if-mended").unwrap();
-        assert!(options.share && options.as_if_mended);
+        assert!(options.share && options.as_if_mended && options.backing.is_none());
+        for line in ["info a", "check a", "repair a", "map a", "read a 0 1", "write a 0"] {
+            let options = run(&format!("{line} --backing -b")).unwrap();
+            assert!(options.backing == Some("-b".into()) && !options.as_raw, "{line}");
+            assert!(run(&format!("{line} --as-raw --backing b")).unwrap().as_raw, "{line}");
+        }
     }
 
     #[test]
@@ -234,6 +248,9 @@ mod tests {
         assert!(fault("read a 0 1 --snapshot").contains("missing"));
         assert!(fault("write a x").starts_with("write: OFFSET: 'x' is no number"));
         assert!(fault("write a 0 --allowance").contains("missing"));
+        assert!(fault("check a --backing").contains("missing"));
+        assert!(fault("check a --backing b --backing b").contains("one file alone"));
+        assert!(fault("check a --as-raw").contains("--backing, which is missing"));
     }
 
     #[test]
@@ -254,7 +271,9 @@ mod tests {
             assert!(text.starts_with(&format!("qstore {name} IMAGE")));
             for option in ["--allowance", "--force", "--share", "--as-if-mended", "--snapshot"] {
                 assert_eq!(text.contains(option), options.contains(&option));
+                assert_eq!(text.contains(&format!("\n  {option} ")), options.contains(&option));
             }
+            assert!(text.contains("\n  --backing FILE ") && text.contains("\n  --as-raw "));
             assert!(help::MAIN.contains(&format!("qstore {name} ")));
         }
     }

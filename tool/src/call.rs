@@ -9,22 +9,27 @@ pub enum Call<'a> {
 }
 
 impl Call<'_> {
-    pub fn run(&self, image: &mut [u8], allowance: u64) -> Outcome {
+    /// `backing` is the bytes of the backing file, here and below.
+    pub fn run(&self, image: &mut [u8], backing: &[u8], allowance: u64) -> Outcome {
         match *self {
-            Call::Write { offset, data } => qcow2_core::write(image, offset, data, allowance),
-            Call::Discard { cluster } => qcow2_core::discard(image, cluster, allowance),
+            Call::Write { offset, data } => {
+                qcow2_core::write(image, backing, offset, data, allowance)
+            }
+            Call::Discard { cluster } => qcow2_core::discard(image, backing, cluster, allowance),
         }
     }
 
     /// What the call is going to change in this image, or with which number it
     /// will be refused.
-    pub fn steps(&self, image: &[u8]) -> Result<Vec<Step>, u32> {
+    pub fn steps(&self, image: &[u8], backing: &[u8]) -> Result<Vec<Step>, u32> {
         let mut rows = [0; STEP * MOST];
         let count = match *self {
             Call::Write { offset, data } => {
-                qcow2_core::write_steps(image, offset, data.len() as u64, &mut rows)?
+                qcow2_core::write_steps(image, backing, offset, data.len() as u64, &mut rows)?
             }
-            Call::Discard { cluster } => qcow2_core::discard_steps(image, cluster, &mut rows)?,
+            Call::Discard { cluster } => {
+                qcow2_core::discard_steps(image, backing, cluster, &mut rows)?
+            }
         };
         Ok(Step::of_rows(&rows[..STEP * count]).collect())
     }

@@ -1,4 +1,4 @@
-//! The image as a whole, by the ranges that hold data: a hole is neither read
+//! A file as a whole, by the ranges that hold data: a hole is neither read
 //! nor given memory.
 
 use std::io;
@@ -8,13 +8,14 @@ use std::sync::{Mutex, PoisonError};
 use std::thread::{self, Builder};
 
 use crate::disk::{shorter, Disk};
+use crate::memory;
 use crate::progress::Progress;
 
 const PORTION: usize = 4 << 20;
 /// A range of this length is worth large pages.
 const LONG: usize = 2 << 20;
 
-/// A part of the image, and where it stands in the file.
+/// A part of the bytes, and where it stands in the file.
 type Part<'a> = (u64, &'a mut [u8]);
 
 /// What is still to be read.
@@ -24,9 +25,14 @@ struct Queue<'a> {
 }
 
 /// All bytes of the disk.
-pub fn read<D: Disk>(disk: &D, length: u64) -> io::Result<Vec<u8>> {
+pub fn read<D: Disk>(disk: &D, length: u64, label: &'static str) -> io::Result<Vec<u8>> {
     let mut bytes = qstore_sys::zeroed(length as usize).ok_or_else(|| too_little(length))?;
-    load(disk, parts(disk, &mut bytes)?, Progress::new("reading the image", length))?;
+    let parts = parts(disk, &mut bytes)?;
+    let data = parts.iter().map(|part| part.1.len() as u64).sum();
+    if memory::available().is_some_and(|available| available < data) {
+        return Err(too_little(length));
+    }
+    load(disk, parts, Progress::new(label, length))?;
     // What was cut off would have been taken for a hole.
     if disk.length()? < length {
         return Err(shorter());
@@ -35,7 +41,7 @@ pub fn read<D: Disk>(disk: &D, length: u64) -> io::Result<Vec<u8>> {
 }
 
 fn too_little(length: u64) -> io::Error {
-    let fault = format!("there is not enough memory for an image of {length} bytes");
+    let fault = format!("there is not enough memory for its {length} bytes");
     io::Error::new(io::ErrorKind::OutOfMemory, fault)
 }
 
@@ -117,7 +123,7 @@ fn ranges<D: Disk>(disk: &D, length: u64) -> impl Iterator<Item = io::Result<Ran
     })
 }
 
-fn is_zero(bytes: &[u8]) -> bool {
+pub fn is_zero(bytes: &[u8]) -> bool {
     advise(bytes);
     // Part by part without an early end in a part, which is quick.
     bytes.chunks(4096).all(|part| part.iter().fold(0, |all, byte| all | byte) == 0)

@@ -1,5 +1,9 @@
 //! What the header says, whether or not the image is accepted.
 
+use std::path::Path;
+
+use crate::backing::{name, shown, Backing};
+use crate::extensions;
 use crate::fields::{Fields, MAX_SNAPSHOTS};
 use crate::image_file::Own;
 use crate::json::Json;
@@ -16,7 +20,7 @@ pub struct Facts {
 /// The length alone, if the bytes do not begin as a qcow2 image does, and the
 /// version beside it, if other versions have other fields. `own` is of the file
 /// as it is.
-pub fn facts(bytes: &[u8], own: Own) -> Facts {
+pub fn facts(bytes: &[u8], backing: &Backing, own: Own) -> Facts {
     let is_image = bytes.starts_with(&[0x51, 0x46, 0x49, 0xFB]);
     let file_size = own.length;
     let Some(fields) = Fields::read(bytes).filter(|_| is_image) else {
@@ -29,15 +33,11 @@ pub fn facts(bytes: &[u8], own: Own) -> Facts {
         return Facts { text, members };
     }
     let fields = Fields { header_length: own.header_length, ..fields };
-    let clusters = match (1u64.checked_shl(fields.cluster_bits), fields.cluster()) {
-        (_, Some(size)) => format!(" ({})", clusters(file_size, size)),
-        (Some(size), None) => format!(" (clusters of {size} bytes)"),
-        _ => String::new(),
-    };
     let mut text = format!(
-        "version: {}\nfile size: {file_size}{clusters}\ndisk size: {}\nL1 entries: {}\nrefcount \
+        "version: {}\nfile size: {file_size}{}\ndisk size: {}\nL1 entries: {}\nrefcount \
          bits: {}\n",
         fields.version,
+        clusters(&fields, file_size),
         fields.size,
         fields.l1_size,
         fields.width().map_or("not known".into(), |width| width.bits().to_string())
@@ -45,7 +45,7 @@ pub fn facts(bytes: &[u8], own: Own) -> Facts {
     if fields.version == 3 {
         text += &format!("header length: {}\n", fields.header_length);
     }
-    for (name, said) in unusual(&fields, bytes) {
+    for (name, said) in unusual(&fields, bytes, backing) {
         text += &format!("{name}: {said}\n");
     }
     let snapshots = listed(&fields, bytes);
@@ -54,7 +54,8 @@ pub fn facts(bytes: &[u8], own: Own) -> Facts {
     if others > 0 {
         text += &format!("  and {others} that cannot be listed\n");
     }
-    let mut members = members(&fields, bytes, file_size);
+    let mut members = members(&fields, file_size);
+    members.extend(beneath(&fields, bytes, backing));
     let objects = snapshots.iter().map(Snapshot::object).collect();
     members.push(("snapshot_list", Json::List(objects)));
     Facts { text, members }
@@ -68,14 +69,20 @@ fn listed(fields: &Fields, bytes: &[u8]) -> Vec<Snapshot> {
     Table::of(bytes, &Fields { snapshots: few, ..*fields }).snapshots
 }
 
-/// Whole clusters, and a word on what is left.
-fn clusters(file_size: u64, cluster: u64) -> String {
-    let rest = if file_size.is_multiple_of(cluster) { "" } else { " and a part of one" };
-    format!("{} clusters of {cluster} bytes{rest}", file_size / cluster)
+/// Whole clusters, and a word on what is left, if their size is known.
+fn clusters(fields: &Fields, file_size: u64) -> String {
+    match (1u64.checked_shl(fields.cluster_bits), fields.cluster()) {
+        (_, Some(cluster)) => {
+            let rest = if file_size.is_multiple_of(cluster) { "" } else { " and a part of one" };
+            format!(" ({} clusters of {cluster} bytes{rest})", file_size / cluster)
+        }
+        (Some(cluster), None) => format!(" (clusters of {cluster} bytes)"),
+        _ => String::new(),
+    }
 }
 
 /// What most images do not have.
-fn unusual(fields: &Fields, bytes: &[u8]) -> Vec<(&'static str, String)> {
+fn unusual(fields: &Fields, bytes: &[u8], backing: &Backing) -> Vec<(&'static str, String)> {
     let mut lines = Vec::new();
     for (name, bits, names) in features(fields) {
         if bits != 0 {
@@ -83,8 +90,12 @@ fn unusual(fields: &Fields, bytes: &[u8]) -> Vec<(&'static str, String)> {
         }
     }
     if fields.backing != 0 {
-        let name = fields.backing_name(bytes);
-        lines.push(("backing file", name.map_or("not readable".into(), |it| format!("{it:?}"))));
+        lines.push(("backing file", name(bytes, fields).map_or("not readable".into(), shown)));
+        let format = extensions::backing_format(bytes, fields);
+        lines.extend(format.map(|format| ("backing file's format", shown(format))));
+    }
+    if let Some((path, length)) = lent(backing) {
+        lines.push(("backing file given", format!("{path:?} ({length} bytes)")));
     }
     if fields.crypt != 0 {
         lines.push(("encryption method", fields.crypt.to_string()));
@@ -93,6 +104,32 @@ fn unusual(fields: &Fields, bytes: &[u8]) -> Vec<(&'static str, String)> {
         lines.push(("snapshots", fields.snapshots.to_string()));
     }
     lines
+}
+
+/// The file that is given, if its bytes are lent, and how many they are.
+fn lent(backing: &Backing) -> Option<(&Path, u64)> {
+    let path = backing.path.as_deref().filter(|_| !backing.bytes.is_empty())?;
+    Some((path, backing.length))
+}
+
+/// The backing file, as the image names it and as it is given.
+fn beneath(fields: &Fields, bytes: &[u8], backing: &Backing) -> Vec<(&'static str, Json)> {
+    let text = |bytes: &[u8]| Json::Text(String::from_utf8_lossy(bytes).into_owned());
+    let hex = |bytes: &[u8]| bytes.iter().map(|byte| format!("{byte:02x}")).collect::<String>();
+    let name = name(bytes, fields);
+    // JSON has no bytes: what its text cannot say is given in hex.
+    let other = name.filter(|name| str::from_utf8(name).is_err());
+    let format = extensions::backing_format(bytes, fields).filter(|_| fields.backing != 0);
+    let given = lent(backing).map_or(Json::Null, |(path, length)| {
+        let path = path.to_string_lossy().into_owned();
+        Json::Object(vec![("path", path.into()), ("length", length.into())])
+    });
+    vec![
+        ("backing_file", name.map_or(Json::Null, text)),
+        ("backing_file_hex", other.map_or(Json::Null, |name| hex(name).into())),
+        ("backing_format", format.map_or(Json::Null, text)),
+        ("backing_given", given),
+    ]
 }
 
 type Feature = (&'static str, u64, &'static [&'static str]);
@@ -105,7 +142,7 @@ fn features(fields: &Fields) -> [Feature; 3] {
     ]
 }
 
-fn members(fields: &Fields, bytes: &[u8], file_size: u64) -> Vec<(&'static str, Json)> {
+fn members(fields: &Fields, file_size: u64) -> Vec<(&'static str, Json)> {
     let number = |number: Option<u64>| number.map_or(Json::Null, Json::Number);
     let mut members = vec![
         ("version", fields.version.into()),
@@ -114,7 +151,6 @@ fn members(fields: &Fields, bytes: &[u8], file_size: u64) -> Vec<(&'static str, 
         ("clusters", number(fields.cluster().map(|cluster| file_size / cluster))),
         ("disk_size", fields.size.into()),
         ("l1_size", fields.l1_size.into()),
-        ("backing_file", fields.backing_name(bytes).map_or(Json::Null, Json::Text)),
         ("crypt_method", fields.crypt.into()),
         ("snapshots", fields.snapshots.into()),
         ("refcount_bits", number(fields.width().map(Width::bits))),

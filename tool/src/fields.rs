@@ -15,6 +15,8 @@ pub const MAX_L1: u64 = 65_536;
 pub const SECTOR: u64 = 512;
 /// The most snapshots that are accepted.
 pub const MAX_SNAPSHOTS: u32 = 64;
+/// The lengths of a backing file's name that are accepted.
+pub const NAME: RangeInclusive<u32> = 1..=1023;
 /// The header_length that is accepted.
 pub const HEADER_LENGTH: u32 = 104;
 /// Bits 9 to 55 of an L1 or L2 entry: the place.
@@ -117,12 +119,18 @@ impl Fields {
         Some(self.width()?.counts_in(self.cluster()? as usize) as u64)
     }
 
-    /// The name of the backing file, if the bytes have it.
-    pub fn backing_name(&self, bytes: &[u8]) -> Option<String> {
+    /// Would qemu look for a backing file? To it a name of no byte is none.
+    pub fn is_over_backing(&self) -> bool {
+        self.backing != 0 && self.backing_length != 0
+    }
+
+    /// The name of the backing file, if the first cluster has it.
+    pub fn backing_name<'a>(&self, bytes: &'a [u8]) -> Option<&'a [u8]> {
         let (at, length) = (usize::try_from(self.backing).ok()?, self.backing_length as usize);
-        let known = at != 0 && (1..=1023).contains(&length);
-        let name = bytes.get(at..at.checked_add(length)?).filter(|_| known)?;
-        Some(String::from_utf8_lossy(name).into_owned())
+        let known = at != 0 && NAME.contains(&self.backing_length);
+        let end =
+            at.checked_add(length).filter(|&end| end as u64 <= self.cluster().unwrap_or(512))?;
+        bytes.get(at..end).filter(|_| known)
     }
 }
 
@@ -153,10 +161,12 @@ mod tests {
     fn names_of_backing_files() {
         let mut bytes = vec![0; 120];
         bytes[112..117].copy_from_slice(b"b.raw");
-        let name = |bytes: &[u8]| Fields::read(bytes).unwrap().backing_name(bytes);
+        fn name(bytes: &[u8]) -> Option<&[u8]> {
+            Fields::read(bytes).unwrap().backing_name(bytes)
+        }
         assert_eq!(name(&bytes), None);
         (bytes[15], bytes[19]) = (112, 5);
-        assert_eq!(name(&bytes), Some("b.raw".into()));
+        assert_eq!(name(&bytes), Some(&b"b.raw"[..]));
         bytes[19] = 9;
         assert_eq!(name(&bytes), None);
         bytes[8] = 0xFF;

@@ -9,6 +9,7 @@ const ROWS: usize = 1 << 14;
 /// may be far more of them than the image has bytes.
 pub struct Runs<'a> {
     image: &'a [u8],
+    backing: &'a [u8],
     at: u64,
     left: u64,
     rows: Vec<u64>,
@@ -20,17 +21,22 @@ pub struct Runs<'a> {
 impl<'a> Runs<'a> {
     /// Or the number with which the header or the range is refused. What is
     /// refused inside the range is a run.
-    pub fn of(image: &'a [u8], offset: u64, length: u64) -> Result<Runs<'a>, u32> {
+    pub fn of(
+        image: &'a [u8],
+        backing: &'a [u8],
+        offset: u64,
+        length: u64,
+    ) -> Result<Runs<'a>, u32> {
         let mut rows = vec![0; 3 * ROWS];
-        let count = qcow2_core::runs(image, offset, length, &mut rows)?;
-        Ok(Runs { image, at: offset, left: length, rows, count, passed: 0 })
+        let count = qcow2_core::runs(image, backing, offset, length, &mut rows)?;
+        Ok(Runs { image, backing, at: offset, left: length, rows, count, passed: 0 })
     }
 
     /// The run at hand. The header and the range were judged, so no portion is
     /// refused; if one is all the same, that is the run of all that is left.
     fn run(&mut self) -> Option<Run> {
         if self.passed == self.count {
-            match qcow2_core::runs(self.image, self.at, self.left, &mut self.rows) {
+            match qcow2_core::runs(self.image, self.backing, self.at, self.left, &mut self.rows) {
                 Ok(count) => (self.count, self.passed) = (count, 0),
                 Err(number) => {
                     return Some(Run { found: Found::Refused(number), length: self.left });

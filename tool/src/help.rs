@@ -2,11 +2,22 @@
 
 pub const HINT: &str = "Try 'qstore --help' or 'qstore COMMAND --help'.";
 
+/// The options of all commands on the backing file.
+macro_rules! backing {
+    () => {
+        "
+  --backing FILE  the raw disk under an image whose header names a backing file;
+                  it is read and never written, and what the header names is
+                  not opened
+  --as-raw        FILE is a raw disk although it begins as another format does
+"
+    };
+}
+
 /// The options of the commands that change nothing.
 macro_rules! looks {
     () => {
-        "
-  --share         look although another program may be changing the image
+        "  --share         look although another program may be changing the image
   --as-if-mended  look at it as if it were padded to whole clusters and its
                   header_length 112 were 104; the file is not changed
 "
@@ -15,9 +26,8 @@ macro_rules! looks {
 
 macro_rules! allowance {
     () => {
-        "
-  --allowance U  stop after U units, as a power cut would; a unit is one count,
-                 one table entry or one byte of a cluster stored
+        "  --allowance U   stop after U units, as a power cut would; a unit is one count,
+                  one table entry or one byte of a cluster stored
 "
     };
 }
@@ -33,8 +43,9 @@ qstore: qcow2 images by the proved core
   qstore write   IMAGE OFFSET           standard input to guest bytes
   qstore discard IMAGE OFFSET LENGTH    give whole guest clusters back
 
-  --json         answer as one JSON value on standard output
-  --help         this text, or that of a command
+  --backing FILE  the raw disk under an image whose header names a backing file
+  --json          answer as one JSON value on standard output
+  --help          this text, or that of a command
   --version
 
 Numbers: 4096, 0x1000, or 4k, 1M, 1G, 1T (powers of 1024).
@@ -42,19 +53,27 @@ Numbers: 4096, 0x1000, or 4k, 1M, 1G, 1T (powers of 1024).
 Exit: 0 sound or finished, 1 failed, refused or stopped, 2 damaged, 3 leaks
 (3 only from check). A refusal has a number from 1 to 22 and says what to do.
 qemu's locks are taken: an image that a machine has open is not changed.
+
+An image over a backing file is refused (19) unless --backing gives that file.
+The name that stands in the image is shown by info and never opened by itself:
+whoever made the image chose it, and an image from a stranger could name any file
+of this machine. FILE is read into memory as a raw disk and never written; what
+the image does not have reads as its bytes, and as zeros past its end.
 ";
 
 pub const INFO: &str = concat!(
     "\
-qstore info IMAGE [--json] [--share] [--as-if-mended]
+qstore info IMAGE [--backing FILE] [--json] [--share] [--as-if-mended]
 
-What the header says, the snapshots, clusters in use, free and leaked, and the
-verdict of the check. For an image that is refused: what its header says, and
-every obstacle with its remedy, in the order of doing.
+What the header says, the name of a backing file with it, the snapshots, clusters
+in use, free and leaked, and the verdict of the check. For an image that is
+refused: what its header says, and every obstacle with its remedy, in the order of
+doing.
 
 Of a snapshot: its number from 0, id, name, date, and the disk's size then, or
 what its L1 table reaches if the image does not say.
 ",
+    backing!(),
     looks!(),
     "
 Exit: 0, or 1 if the image is refused.
@@ -63,7 +82,7 @@ Exit: 0, or 1 if the image is refused.
 
 pub const CHECK: &str = concat!(
     "\
-qstore check IMAGE [--json] [--share] [--as-if-mended]
+qstore check IMAGE [--backing FILE] [--json] [--share] [--as-if-mended]
 
 Counts the references of every cluster, from the disk and from every snapshot,
 and compares them with the stored counts. The verdict comes first, then all
@@ -72,6 +91,7 @@ that are used for two things or twice for one; clusters whose count is too low;
 wrong marks, which are entries of the disk whose bit 63 does not say whether
 there is another reference. The image is not changed.
 ",
+    backing!(),
     looks!(),
     "
 Exit: 0 sound, 1 failed or refused, 2 damaged, 3 leaks.
@@ -80,16 +100,17 @@ Exit: 0 sound, 1 failed or refused, 2 damaged, 3 leaks.
 
 pub const REPAIR: &str = concat!(
     "\
-qstore repair IMAGE [--json] [--allowance U] [--force]
+qstore repair IMAGE [--backing FILE] [--json] [--allowance U] [--force]
 
 Sets the count of each leaked cluster to its references, so that it is free
-again. Guest bytes do not change, nor do those of snapshots. A damaged image is refused (17) and left as
-it is. So is a leaking one with autoclear_features: what looks leaked may be
-theirs, such as the clusters of qemu's persistent bitmaps.
+again. Guest bytes do not change, nor do those of snapshots. A damaged image is
+refused (17) and left as it is. So is a leaking one with autoclear_features: what
+looks leaked may be theirs, such as the clusters of qemu's persistent bitmaps.
 ",
+    backing!(),
     allowance!(),
-    "  --force        repair it although autoclear_features is not 0; they are
-                 cleared first, and persistent bitmaps are lost
+    "  --force         repair it although autoclear_features is not 0; they are
+                  cleared first, and persistent bitmaps are lost
 
 Exit: 0 sound afterwards, 1 failed, refused or stopped, 2 damaged.
 "
@@ -97,13 +118,14 @@ Exit: 0 sound afterwards, 1 failed, refused or stopped, 2 damaged.
 
 pub const MAP: &str = concat!(
     "\
-qstore map IMAGE [--json] [--share] [--as-if-mended]
+qstore map IMAGE [--backing FILE] [--json] [--share] [--as-if-mended]
 
 The guest disk as runs, fields parted by tabs: guest offset, length, kind and
 host offset. Kinds: host (data at the host offset), zeros, absent (not
-allocated, reads as zeros), refused (no way through the tables; the last field
-is then the number).
+allocated: reads as the backing file at the same offset, or as zeros if there is
+none), refused (no way through the tables; the last field is then the number).
 ",
+    backing!(),
     looks!(),
     "
 Exit: 0, or 1 if the image or a run is refused.
@@ -112,8 +134,8 @@ Exit: 0, or 1 if the image or a run is refused.
 
 pub const READ: &str = concat!(
     "\
-qstore read IMAGE OFFSET LENGTH [--snapshot S] [--json] [--share]
-            [--as-if-mended]
+qstore read IMAGE OFFSET LENGTH [--snapshot S] [--backing FILE] [--json]
+            [--share] [--as-if-mended]
 
 Writes the guest bytes to standard output. Nothing is written unless the whole
 range can be read. With --json the bytes are given in hex.
@@ -123,8 +145,9 @@ that id, as qemu takes it; or else by its number from 0 after a #, as in '#0'. S
 a name that is also a number is reached if it is no snapshot's id, and by the
 number otherwise. A name that several have is refused. A range may go up to what
 the snapshot's L1 table reaches, which may be more than the disk had then.
-
-  --snapshot S    the bytes that a snapshot has kept, in place of the disk's
+",
+    backing!(),
+    "  --snapshot S    the bytes that a snapshot has kept, in place of the disk's
 ",
     looks!(),
     "
@@ -134,7 +157,7 @@ Exit: 0, or 1 if failed or refused.
 
 pub const WRITE: &str = concat!(
     "\
-qstore write IMAGE OFFSET [--json] [--allowance U]
+qstore write IMAGE OFFSET [--backing FILE] [--json] [--allowance U]
 
 Writes standard input to the guest bytes from OFFSET on, guest cluster by guest
 cluster. The whole request is tried in memory first: if any part is refused,
@@ -142,11 +165,13 @@ the file is not changed. Of each guest cluster what nothing leads to yet is
 stored and flushed before the entry that leads to it, so that a power cut leaves
 an image that is sound or leaks.
 
-What a snapshot holds is never changed: a write to it is refused (22).
+What a snapshot holds is never changed: a write to it is refused (22). Around the
+bytes that are written a new cluster has those of the backing file.
 
 autoclear_features are cleared first: qemu then no longer uses persistent
 bitmaps, which would lack the change.
 ",
+    backing!(),
     allowance!(),
     "
 Exit: 0 finished, 1 failed, refused or stopped, 2 the image is damaged.
@@ -155,15 +180,18 @@ Exit: 0 finished, 1 failed, refused or stopped, 2 the image is damaged.
 
 pub const DISCARD: &str = concat!(
     "\
-qstore discard IMAGE OFFSET LENGTH [--json] [--allowance U]
+qstore discard IMAGE OFFSET LENGTH [--backing FILE] [--json] [--allowance U]
 
 Gives whole guest clusters back; they read as zeros afterwards. OFFSET has to be
 a multiple of the cluster size, and so has LENGTH unless the range ends with
-the disk. L2 tables are kept. What a snapshot holds is refused (22).
+the disk. L2 tables are kept. What a snapshot holds is refused (22). Over a backing
+file they are marked as zeros; where there can be no mark, in version 2 or without
+an L2 table, a discard is refused (20).
 
 autoclear_features are cleared first: qemu then no longer uses persistent
 bitmaps, which would lack the change.
 ",
+    backing!(),
     allowance!(),
     "
 Exit: 0 finished, 1 failed, refused or stopped, 2 the image is damaged.

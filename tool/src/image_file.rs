@@ -6,27 +6,31 @@ use std::path::{Path, PathBuf};
 
 use qcow2_core::Verdict;
 
+use crate::backing::{Above, Backing, Given};
 use crate::disk::{unflushed, Disk};
 use crate::extents;
 use crate::fields::{Fields, MAX_IMAGE};
 use crate::lock;
 use crate::mended;
 use crate::report::Failure;
-use crate::sentences::{refusal, Request, Subject};
+use crate::sentences::{Request, Subject};
 
-/// What a command does with the image.
+/// What a command does with a file.
 #[derive(Clone, Copy, PartialEq)]
 pub enum Access {
     Look,
     /// Look although another program may be changing it.
     LookShared,
     Change,
+    /// Look at the backing file of an image that is changed.
+    Lend,
 }
 
 pub struct ImageFile<D = File> {
     pub path: PathBuf,
     pub file: D,
     pub bytes: Vec<u8>,
+    pub backing: Backing,
     /// What the user has to know of how the bytes were come by.
     pub notes: Vec<String>,
     /// The file as it is, where the bytes are as if mended.
@@ -48,44 +52,64 @@ impl Own {
 }
 
 impl ImageFile {
-    /// Reads the image; `as_if_mended` is for looking alone.
-    pub fn open(path: &Path, access: Access, as_if_mended: bool) -> Result<ImageFile, Failure> {
-        // Before it is opened: opening a FIFO waits, and a device may do more.
-        regular(fs::metadata(path)?.file_type())?;
-        let change = access == Access::Change;
-        let file = OpenOptions::new().read(true).write(change).open(path)?;
-        regular(file.metadata()?.file_type())?;
+    /// Reads the image, and the backing file if one is given for it;
+    /// `as_if_mended` is for looking alone.
+    pub fn open(
+        path: &Path,
+        access: Access,
+        as_if_mended: bool,
+        given: Option<Given>,
+    ) -> Result<ImageFile, Failure> {
+        let file = open_regular(path, access, "an image")?;
         lock::take(&file, access)?;
-        ImageFile::read(path, file, access, as_if_mended)
+        let beneath = given.map(|given| given.path);
+        let mut image = ImageFile::read(path, file, access, as_if_mended, beneath)?;
+        if let Some(given) = given {
+            let above = Above { access, file: &image.file, bytes: &image.bytes };
+            image.notes.extend(image.backing.read(given, &above)?);
+        }
+        Ok(image)
     }
+}
+
+/// Opens what has to be a regular file.
+pub fn open_regular(path: &Path, access: Access, what: &str) -> Result<File, Failure> {
+    // Before it is opened: opening a FIFO waits, and a device may do more.
+    regular(fs::metadata(path)?.file_type(), what)?;
+    let change = access == Access::Change;
+    let file = OpenOptions::new().read(true).write(change).open(path)?;
+    regular(file.metadata()?.file_type(), what)?;
+    Ok(file)
 }
 
 impl<D: Disk> ImageFile<D> {
     /// Reads the image from a disk that is locked. For a change it is flushed
     /// first: a program that was killed may have left the system's cache ahead
     /// of the drive, and stores that follow from what was judged there must not
-    /// reach the drive before it.
+    /// reach the drive before it. Of the backing file nothing is read here.
     pub fn read(
         path: &Path,
         mut disk: D,
         access: Access,
         as_if_mended: bool,
+        backing: Option<&Path>,
     ) -> Result<ImageFile<D>, Failure> {
+        let backing = Backing::named(backing);
         if access == Access::Change {
             disk.flush()
                 .map_err(|error| Failure::Other(format!("not changed: {}", unflushed(&error))))?;
         }
         let length = disk.length()?;
         if length > MAX_IMAGE {
-            return Err(too_long(path, &disk, length)?);
+            return Err(too_long(path, &disk, length, &backing)?);
         }
-        let mut bytes = extents::read(&disk, length)?;
+        let mut bytes = extents::read(&disk, length, "reading the image")?;
         let own = Own::of(&bytes, length);
         let mut notes = shared(access);
         if as_if_mended {
             notes.extend(mended::mend(&mut bytes));
         }
-        Ok(ImageFile { path: path.into(), file: disk, bytes, notes, own })
+        Ok(ImageFile { path: path.into(), file: disk, bytes, backing, notes, own })
     }
 }
 
@@ -95,15 +119,15 @@ impl<D> ImageFile<D> {
         self.own != Own::of(&self.bytes, self.bytes.len() as u64)
     }
 
+    /// What a refusal is about.
+    pub fn subject(&self) -> Subject<'_> {
+        Subject::of(&self.path, &self.bytes, &self.backing)
+    }
+
     /// The failure for a number that the core gave.
     pub fn refused(&self, number: u32, request: Request) -> Failure {
-        refused(&self.path, &self.bytes, number, request)
+        self.subject().refused(number, request)
     }
-}
-
-pub fn refused(path: &Path, bytes: &[u8], number: u32, request: Request) -> Failure {
-    let subject = Subject { path, length: bytes.len() as u64, bytes };
-    Failure::Refused(refusal(number, &subject, request))
 }
 
 const SHARED: &str =
@@ -124,7 +148,7 @@ pub fn notes_unread(access: Access, as_if_mended: bool) -> Vec<String> {
     notes
 }
 
-fn regular(kind: FileType) -> Result<(), Failure> {
+fn regular(kind: FileType, wanted: &str) -> Result<(), Failure> {
     let what = if kind.is_file() {
         return Ok(());
     } else if kind.is_dir() {
@@ -136,18 +160,23 @@ fn regular(kind: FileType) -> Result<(), Failure> {
     } else {
         "a socket"
     };
-    Err(Failure::Other(format!("it is {what}, and an image has to be a regular file")))
+    Err(Failure::Other(format!("it is {what}, and {wanted} has to be a regular file")))
 }
 
 /// A file above the limit is judged by its first 512 bytes: the core gives 1
 /// to 4 by them alone, and 5 is next.
-fn too_long<D: Disk>(path: &Path, disk: &D, length: u64) -> Result<Failure, Failure> {
+fn too_long<D: Disk>(
+    path: &Path,
+    disk: &D,
+    length: u64,
+    backing: &Backing,
+) -> Result<Failure, Failure> {
     let mut head = [0; 512];
     disk.load(0, &mut head)?;
-    let number = match qcow2_core::check(&head, &mut [0]) {
+    let number = match qcow2_core::check(&head, &[], &mut [0]) {
         Verdict::Refused(number @ 1..=4) => number,
         _ => 5,
     };
-    let subject = Subject { path, length, bytes: &head };
-    Ok(Failure::Refused(refusal(number, &subject, Request::Look)))
+    let subject = Subject { length, ..Subject::of(path, &head, backing) };
+    Ok(subject.refused(number, Request::Look))
 }

@@ -6,6 +6,7 @@
 
 pub mod args;
 pub mod autoclear;
+pub mod backing;
 pub mod call;
 pub mod commands;
 pub mod damage;
@@ -24,6 +25,7 @@ pub mod layout;
 pub mod lock;
 pub mod man;
 pub mod marks;
+pub mod memory;
 pub mod mended;
 pub mod number;
 pub mod obstacles;

@@ -37,7 +37,7 @@ enum Conflict {
 fn permissions(access: Access) -> (&'static [u32], &'static [u32]) {
     match access {
         Access::Change => (&[READ, WRITE], &[WRITE, RESIZE, WRITE_UNCHANGED, READ]),
-        Access::Look => (&[READ], &[WRITE, RESIZE]),
+        Access::Look | Access::Lend => (&[READ], &[WRITE, RESIZE]),
         Access::LookShared => (&[], &[]),
     }
 }
@@ -88,8 +88,10 @@ fn held(conflict: Conflict, access: Access) -> String {
         }
     };
     let instead = match access {
-        Access::Change => ", then try again",
-        _ => ", or look all the same with --share: what is shown may then be stale or wrong",
+        Access::Change | Access::Lend => ", then try again",
+        Access::Look | Access::LookShared => {
+            ", or look all the same with --share: what is shown may then be stale or wrong"
+        }
     };
     format!("another program {what}.\n  End that program first{instead}.")
 }
@@ -104,7 +106,10 @@ fn without(error: &io::Error, access: Access) -> String {
     }
     let instead = match access {
         Access::Change => "Copy it to a file system that has them, and change it there",
-        _ => "Copy it to a file system that has them, or look without them with --share",
+        Access::Lend => "Copy it to a file system that has them, and give that copy",
+        Access::Look | Access::LookShared => {
+            "Copy it to a file system that has them, or look without them with --share"
+        }
     };
     format!(
         "its file system has no locks of the kind that qemu takes ({error}), so nothing tells \
@@ -123,6 +128,8 @@ mod tests {
         let text = held(Conflict::Used(READ), Access::Change);
         assert!(text.contains("'consistent read'), and a change shares it with nobody"));
         assert!(text.contains("End that program first") && !text.contains("--share"));
+        let text = held(Conflict::Used(WRITE), Access::Lend);
+        assert!(text.contains("End that program first, then") && !text.contains("--share"));
         let text = held(Conflict::Process(42), Access::Look);
         assert!(
             text.contains("process 42, in a way that is not qemu's") && text.contains("--share")
@@ -140,6 +147,7 @@ mod tests {
             assert!(text.contains("has no locks") && text.contains("--share"), "{text}");
             assert!(text.contains(&format!("(os error {number})")));
             assert!(!without(&error, Access::Change).contains("--share"));
+            assert!(!without(&error, Access::Lend).contains("--share"));
         }
         for number in [11, 13] {
             let text = without(&io::Error::from_raw_os_error(number), Access::Look);

@@ -5,6 +5,7 @@
 use std::mem::take;
 use std::path::Path;
 
+use crate::backing::Backing;
 use crate::damage;
 use crate::fields::{Fields, HEADER_LENGTH, MAX_IMAGE, MAX_L1, MAX_SNAPSHOTS, SECTOR};
 use crate::layout::Layout;
@@ -16,12 +17,12 @@ use crate::sentences::{
 /// The obstacles of a file in the order of the numbers; the first is the core's
 /// answer on the file as it is. `bytes` is the whole file, or its first 512
 /// bytes where it is too long; it is changed.
-pub fn of(path: &Path, bytes: &mut Vec<u8>, length: u64) -> Vec<Refusal> {
+pub fn of(path: &Path, bytes: &mut Vec<u8>, length: u64, backing: &Backing) -> Vec<Refusal> {
     let mut found = Vec::new();
-    let new_image = Subject { path, length, bytes }.new_image(0);
+    let new_image = Subject { path, length, bytes, backing }.new_image(0);
     let header = bytes.iter().take(512).copied().collect();
     let too_long = length > MAX_IMAGE;
-    let mut probe = Probe { length, too_long, reach: Reach::Tables, header, bytes };
+    let mut probe = Probe { length, too_long, reach: Reach::Tables, header, bytes, backing };
     while let Some(number) = probe.number() {
         found.push(probe.sentence(path, number));
         if !probe.mend(number) {
@@ -32,7 +33,7 @@ pub fn of(path: &Path, bytes: &mut Vec<u8>, length: u64) -> Vec<Refusal> {
         found.extend(probe.compressed());
     }
     let mut refusals = refusals(found, &new_image);
-    let subject = Subject { path, length, bytes: &[] };
+    let subject = Subject { length, ..Subject::of(path, &[], backing) };
     refusals.iter_mut().for_each(|one| one.advice = subject.printable(take(&mut one.advice)));
     refusals
 }
@@ -77,7 +78,9 @@ impl Told<'_> {
                 self.lengthened = !new_image.before.is_empty();
                 joined(&new_image.whole(), text)
             }
-            Err(_) if !first => "No new image can be made of this file.".into(),
+            Err(_) if !first => {
+                format!("What ({}) says of a new image holds here too.", self.by.unwrap_or(number))
+            }
             Err(reason) => reason.clone(),
         }
     }
@@ -114,13 +117,15 @@ struct Probe<'a> {
     /// As it is in the file.
     header: Vec<u8>,
     bytes: &'a mut Vec<u8>,
+    backing: &'a Backing,
 }
 
 impl Probe<'_> {
     /// Tells of the header as it is in the file.
     fn sentence(&mut self, path: &Path, number: u32) -> Sentence {
         self.change_header();
-        let subject = Subject { path, length: self.length, bytes: self.bytes };
+        let (length, backing) = (self.length, self.backing);
+        let subject = Subject { path, length, bytes: self.bytes, backing };
         let sentence = sentence(number, &subject, Request::Look);
         self.change_header();
         sentence
@@ -135,7 +140,7 @@ impl Probe<'_> {
     /// The core's number, if it is one that can be asked for.
     fn number(&self) -> Option<u32> {
         // Reading nothing judges the header.
-        let number = match qcow2_core::read(self.bytes, 0, &mut []) {
+        let number = match qcow2_core::read(self.bytes, &self.backing.bytes, 0, &mut []) {
             Err(number @ 1..=4) => number,
             _ if self.too_long => 5,
             Err(number) => number,
@@ -163,6 +168,7 @@ impl Probe<'_> {
             7 => self.put(72, &[0; 8]),
             8 => self.mend_size(&fields),
             18 => self.put(24, &[0; 8]),
+            19 => self.put(8, &[0; 8]),
             21 => self.put(60, &[0; 4]),
             _ => return false,
         }
@@ -182,7 +188,6 @@ impl Probe<'_> {
     }
 
     fn mend_features(&mut self, fields: &Fields) {
-        self.put(8, &[0; 8]);
         self.put(32, &[0; 4]);
         if fields.snapshots > MAX_SNAPSHOTS {
             self.put(60, &[0; 4]);
@@ -211,7 +216,8 @@ impl Probe<'_> {
     fn compressed(&self) -> Option<Sentence> {
         let layout = Layout::of(self.bytes).filter(|_| self.reach == Reach::Tables)?;
         let mut scratch = vec![0; layout.scratch()];
-        if !damage::is_bad_entry(qcow2_core::check(self.bytes, &mut scratch)) {
+        let verdict = qcow2_core::check(self.bytes, &self.backing.bytes, &mut scratch);
+        if !damage::is_bad_entry(verdict) {
             return None;
         }
         let entries = damage::bad_entries(&layout, self.bytes).compressed;

@@ -14,13 +14,15 @@
 //! (crates/qcow2_spec/specs/Series.antt, `LooseDemand3` and what follows it).
 //! What remains here is to store what the steps say and nothing else.
 //!
-//! Memory has the image once: the bytes as they were are loaded from the file.
+//! Memory has the image once: the bytes as they were are loaded from the file. The
+//! backing file's bytes stand beside it, the same for every call.
 
 use std::io;
 use std::ops::Range;
 
 use qcow2_core::{Geometry, Outcome, Step, STEP};
 
+use crate::backing::Backing;
 use crate::call::Call;
 use crate::disk::Disk;
 use crate::extents;
@@ -32,6 +34,8 @@ pub struct Ordered<D> {
     pub geometry: Geometry,
     /// What the core works on; between calls it is what the file holds.
     work: Vec<u8>,
+    /// What every call is lent beside it.
+    backing: Backing,
 }
 
 /// Why the file was not brought further.
@@ -48,12 +52,17 @@ pub enum Fault {
 impl<D: Disk> Ordered<D> {
     /// An image whose bytes the disk holds, or the number of its header. For
     /// [`Ordered::call`] it has to be sound or leak.
-    pub fn new(disk: D, image: Vec<u8>) -> Result<Ordered<D>, u32> {
-        Ok(Ordered { disk, geometry: qcow2_core::geometry(&image)?, work: image })
+    pub fn new(disk: D, image: Vec<u8>, backing: Backing) -> Result<Ordered<D>, u32> {
+        let geometry = qcow2_core::geometry(&image, &backing.bytes)?;
+        Ok(Ordered { disk, geometry, work: image, backing })
     }
 
     pub fn image(&self) -> &[u8] {
         &self.work
+    }
+
+    pub fn backing(&self) -> &Backing {
+        &self.backing
     }
 
     pub fn into_disk(self) -> D {
@@ -101,13 +110,14 @@ impl<D: Disk> Ordered<D> {
         mut done: impl FnMut(u64, u64),
     ) -> Result<Outcome, Fault> {
         let mut scratch = vec![0; self.geometry.scratch()];
-        let steps = match repair_steps(&self.work, &self.geometry, &mut scratch) {
+        let backing = &self.backing.bytes;
+        let steps = match repair_steps(&self.work, backing, &self.geometry, &mut scratch) {
             Ok(steps) => steps,
             Err(number) => return Ok(Outcome::Refused(number)),
         };
         let total = units(&steps);
         let steps = within(steps, allowance);
-        let outcome = qcow2_core::repair(&mut self.work, &mut scratch, allowance);
+        let outcome = qcow2_core::repair(&mut self.work, backing, &mut scratch, allowance);
         is_told(outcome, &steps)?;
         self.bring(&steps, |units| done(units, total))?;
         Ok(outcome)
@@ -121,11 +131,12 @@ impl<D: Disk> Ordered<D> {
 
     /// Makes a call in memory: how it ended, and the steps that it made.
     fn run(&mut self, call: &Call, allowance: u64) -> Result<(Outcome, Vec<Step>), Fault> {
-        let steps = match call.steps(&self.work) {
+        let backing = &self.backing.bytes;
+        let steps = match call.steps(&self.work, backing) {
             Ok(steps) => within(steps, allowance),
             Err(number) => return Ok((Outcome::Refused(number), Vec::new())),
         };
-        let outcome = call.run(&mut self.work, allowance);
+        let outcome = call.run(&mut self.work, backing, allowance);
         is_told(outcome, &steps)?;
         Ok((outcome, steps))
     }
@@ -164,9 +175,14 @@ impl<D: Disk> Ordered<D> {
 
 /// A step for each count that is set, and one that clears the autoclear bits.
 /// The rows that are not filled take no memory.
-fn repair_steps(image: &[u8], geometry: &Geometry, scratch: &mut [u8]) -> Result<Vec<Step>, u32> {
+fn repair_steps(
+    image: &[u8],
+    backing: &[u8],
+    geometry: &Geometry,
+    scratch: &mut [u8],
+) -> Result<Vec<Step>, u32> {
     let mut rows = vec![0; STEP * (geometry.clusters + 1)];
-    let count = qcow2_core::repair_steps(image, scratch, &mut rows)?;
+    let count = qcow2_core::repair_steps(image, backing, scratch, &mut rows)?;
     Ok(Step::of_rows(&rows[..STEP * count]).collect())
 }
 

@@ -10,10 +10,15 @@ use std::process::Command;
 
 use common::drive::Random;
 use common::kept::{copied, of_qemu};
-use common::made::{guest_by_tables, made, names_past, put64, snapshots_by_tables, Made};
+use common::made::{guest_by_tables, made, names_past, over, put64, snapshots_by_tables, Made};
 use common::{bench_image, images, Copy};
+use qcow2_core::Verdict;
+use qstore::backing::Backing;
 use qstore::obstacles;
 use qstore::sentences::commands::Commands;
+
+/// A backing file that is given.
+const BACKING: &str = "/beneath/b.raw";
 
 /// The commands between backquotes.
 fn commands(text: &str) -> Vec<String> {
@@ -24,6 +29,7 @@ fn commands(text: &str) -> Vec<String> {
 fn kind(command: &str, image: &Path) -> String {
     let image = image.to_str().unwrap();
     let named = command.replace(&format!("{image}.new"), "NEW").replace(image, "IMAGE");
+    let named = named.replace(BACKING, "BACKING");
     let named =
         named.replace(" -f qcow2 -O", " -f F -O").replace("--salvage -f F", "--salvage -f qcow2");
     let named = named.replace(" -f qcow2 -F", " -f F -F");
@@ -53,11 +59,16 @@ fn sh(command: &str) {
 }
 
 /// The file before and after a command: what was cut off is zeros that nothing
-/// names, what was added is zeros, and at most byte 103 is another.
+/// names, what was added is zeros, and at most header_length is another, with what
+/// is then no longer the header's.
 fn nothing_is_lost(before: &[u8], after: &[u8]) {
     let both = before.len().min(after.len());
-    assert!(before[..103] == after[..103] && before[104..both] == after[104..both]);
-    assert!(before[103] == after[103] || (before[103], after[103]) == (112, 104));
+    assert!(before[..103] == after[..103] && before[108..both] == after[108..both]);
+    if before[103..108] != after[103..108] {
+        assert_eq!(before[103..112], [112, 0, 0, 0, 0, 0, 0, 0, 0]);
+        assert!([[104, 0, 0, 0, 0], [104, 0x68, 3, 0xF8, 0x57]]
+            .contains(&after[103..108].try_into().unwrap()));
+    }
     assert!(before[both..].iter().chain(&after[both..]).all(|&byte| byte == 0));
     assert!(after.len() >= before.len() || !names_past(before, after.len()));
     assert!(guest_by_tables(before) == guest_by_tables(after));
@@ -87,7 +98,7 @@ fn with_data() -> Made {
     let mut made = made(3, 9, 300, 1 << 20);
     for offset in [0, 5000, 100_000, 900_000] {
         let data = [offset as u8 | 1; 50];
-        let outcome = qcow2_core::write(&mut made.image, offset, &data, u64::MAX);
+        let outcome = qcow2_core::write(&mut made.image, &[], offset, &data, u64::MAX);
         assert!(matches!(outcome, qcow2_core::Outcome::Finished(_)));
     }
     made
@@ -99,7 +110,9 @@ fn what_is_advised_loses_no_byte() {
     let mut case = |name: &str, image: &[u8], line: &str, input: &[u8], numbers: &[u32]| {
         let copy = Copy::with(image, name);
         assert_eq!(heed(&copy, line, input, &mut met), numbers, "{name}");
-        let check = copy.run("check IMAGE");
+        let (_, given) = line.split_once(" --backing").unwrap_or_default();
+        let given = if given.is_empty() { "" } else { &format!(" --backing{given}") };
+        let check = copy.run(&format!("check IMAGE{given}"));
         assert!([0, 3].contains(&check.exit), "{name}: {}", check.text);
     };
     let Made { image, block_at, .. } = with_data();
@@ -108,6 +121,11 @@ fn what_is_advised_loses_no_byte() {
     as_qemu_makes_it.truncate(block_at + 30 * 512 + 100);
     put64(&mut as_qemu_makes_it, 512 + 8, 0);
     case("advice-made", &as_qemu_makes_it, "check IMAGE", &[], &[5, 6]);
+    // The same over a backing file.
+    let beneath = Copy::with(&[1; 5000], "advice-beneath");
+    over(&mut as_qemu_makes_it, b"b.raw", Some(b"raw"));
+    let line = format!("check IMAGE --backing {}", beneath.path.to_str().unwrap());
+    case("advice-over", &as_qemu_makes_it, &line, &[], &[5, 6]);
     // As qemu makes it, with a snapshot.
     let mut with_snapshot = of_qemu().0;
     with_snapshot[103] = 112;
@@ -136,14 +154,14 @@ fn what_is_advised_loses_no_byte() {
 fn a_lost_table_entry_cuts_nothing_off() {
     let Made { mut image, .. } = made(3, 9, 1024, 1 << 20);
     for offset in (0..350_000).step_by(512) {
-        _ = qcow2_core::write(&mut image, offset, &[7; 512], u64::MAX);
+        _ = qcow2_core::write(&mut image, &[], offset, &[7; 512], u64::MAX);
     }
     let name = Path::new("a");
     let lost = |image: &[u8], index: usize| {
         let mut bytes = image.to_vec();
         put64(&mut bytes, 512 + 8 * index, 0);
         let length = bytes.len() as u64;
-        let found = obstacles::of(name, &mut bytes, length);
+        let found = obstacles::of(name, &mut bytes, length, &Backing::default());
         assert_eq!((found.len(), found[0].number), (1, 10));
         commands(&found[0].advice)
     };
@@ -185,7 +203,8 @@ fn advice_on_any_image() {
         spoil(&mut image, &mut random);
         let length = image.len() as u64;
         let copy = Copy::with(&image, "advice-any");
-        let found = obstacles::of(&copy.path, &mut image, length);
+        let found = obstacles::of(&copy.path, &mut image, length, &Backing::default());
+        let last = found.last().map(|one| one.number);
         let texts: Vec<String> = found.into_iter().map(|one| one.advice).collect();
         for command in commands(&texts.join(" ")) {
             if command.contains("qemu-img") || command.contains(".new") {
@@ -196,13 +215,13 @@ fn advice_on_any_image() {
             nothing_is_lost(&before, &copy.bytes());
             run.insert(kind(&command, &copy.path));
         }
-        // Where all can be done in place, it is enough.
+        // Where all can be done in place, it is enough. After 10 nothing is asked.
         if texts.iter().all(|text| text.contains('`') && !text.contains("qemu-img")) {
-            let image = copy.bytes();
-            let mut scratch = vec![0; image.len() / 256];
-            let verdict = qcow2_core::check(&image, &mut scratch);
-            assert!(!matches!(verdict, qcow2_core::Verdict::Refused(_)), "{texts:?}");
-            accepted += 1;
+            match common::promise::verdict(&copy.bytes()) {
+                Verdict::Refused(19 | 21) => assert_eq!(last, Some(10)),
+                Verdict::Refused(_) => panic!("{texts:?}"),
+                _ => accepted += 1,
+            }
         }
     }
     assert!(run.len() >= 4 && accepted > 100, "{run:?}, {accepted}");
@@ -233,23 +252,29 @@ fn spoil(image: &mut Vec<u8>, random: &mut Random) {
 #[test]
 fn the_list_of_commands_is_whole() {
     let path = Path::new("/image/a");
-    let all = Commands::of(path);
+    let all = Commands::of(path, None);
     let made = [
         all.pad(512),
         all.append(512),
         all.shorten(512),
         all.set_length_back(),
+        all.set_length_back_seen(),
         all.lengthen_disk(512),
         all.check(),
-        all.convert("qcow2", 0),
-        all.convert("qcow2", 512),
-        all.salvage(),
-        all.compare("qcow2"),
     ];
-    let kinds: BTreeSet<String> =
-        made.iter().flat_map(|text| commands(text)).map(|command| kind(&command, path)).collect();
+    let made: Vec<String> = made.into_iter().chain(of_qemu_img(&all)).collect();
+    let over = Commands::of(path, Some(Path::new(BACKING)));
+    let made_over = of_qemu_img(&over).into_iter().chain([over.upgrade()]);
+    let made_over: Vec<String> = made_over.collect();
+    let kinds: BTreeSet<String> = made
+        .iter()
+        .chain(&made_over)
+        .flat_map(|text| commands(text))
+        .map(|command| kind(&command, path))
+        .collect();
     let mut wanted = listed("advice.rs");
     wanted.extend(listed("advice.sh"));
+    wanted.extend(listed("backing.sh"));
     assert_eq!(kinds, wanted);
     let sources = Path::new(env!("CARGO_MANIFEST_DIR")).join("src");
     for (file, text) in sources_in(&sources) {
@@ -258,13 +283,18 @@ fn the_list_of_commands_is_whole() {
         let code: String = code.lines().map(|line| line.split("//").next().unwrap()).collect();
         let code = code.replace("qemu-img (1)", "");
         let own = file.ends_with("sentences/commands.rs");
-        // One of them has two forms.
-        let marks = if own { 2 * (made.len() - 1) } else { 0 };
+        // One of them has two forms, and one is for backing files alone.
+        let marks = if own { 2 * made.len() } else { 0 };
         assert_eq!(code.matches('`').count(), marks, "{file}");
         for program in ["qemu-img", "truncate -s", "dd of"] {
             assert!(own || !code.contains(program), "{file}: {program}");
         }
     }
+}
+
+/// Those that read the image as qemu does.
+fn of_qemu_img(all: &Commands) -> [String; 4] {
+    [all.convert("qcow2", 0), all.convert("qcow2", 512), all.salvage(), all.compare("qcow2")]
 }
 
 fn sources_in(folder: &Path) -> Vec<(String, String)> {

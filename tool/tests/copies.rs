@@ -16,7 +16,7 @@ type Change<'a> = &'a dyn Fn(&mut Vec<u8>);
 
 fn with(test: &str, change: Change) -> Copy {
     let mut image = bench_image();
-    _ = qcow2_core::write(&mut image, 0, b"x", u64::MAX);
+    _ = qcow2_core::write(&mut image, &[], 0, b"x", u64::MAX);
     change(&mut image);
     Copy::with(&image, test)
 }
@@ -45,7 +45,7 @@ fn set_l2(image: &mut [u8], index: usize, entry: u64) {
 fn what_the_new_one_lacks() {
     let cases: [(&str, bool, Change); 7] = [
         ("(5)", true, &|_| ()),
-        ("(6)", false, &|image| image[15] = 1),
+        ("(19)", false, &|image| (image[14], image[15]) = (1, 0x40)),
         ("(7)", false, &|image| image[79] = 1),
         ("(9)", false, &|image| image.resize((1 << 23) + 512, 0)),
         ("(10)", false, &|image| image[518] = 5),

@@ -18,7 +18,7 @@ fn filled(version: u8, random: &mut Random) -> Made {
     let mut made = made(version, 9, 200, 1 << 20);
     for cluster in 0..60 {
         let offset = if cluster == 0 { 0 } else { 512 * random.below(256) as u64 };
-        let outcome = qcow2_core::write(&mut made.image, offset, &[5; 512], u64::MAX);
+        let outcome = qcow2_core::write(&mut made.image, &[], offset, &[5; 512], u64::MAX);
         assert!(matches!(outcome, Outcome::Finished(_)));
     }
     made
@@ -55,7 +55,7 @@ fn spoiled(entry: u64, random: &mut Random) -> u64 {
 fn named_by_the_core(mut image: Vec<u8>, layout: &Layout) -> Vec<(u64, Option<u64>)> {
     let mut named = Vec::new();
     loop {
-        let at = match check(&image, &mut vec![0; layout.scratch()]) {
+        let at = match check(&image, &[], &mut vec![0; layout.scratch()]) {
             Verdict::BadL1(l1_index) => {
                 named.push((l1_index, None));
                 layout.l1_entry_at(l1_index)
@@ -107,7 +107,7 @@ fn every_bad_entry_is_listed() {
 /// The first of each list is what the core's verdict names.
 fn first_is_the_verdict(image: &[u8], layout: &Layout) {
     let mut scratch = vec![0; layout.scratch()];
-    let verdict = check(image, &mut scratch);
+    let verdict = check(image, &[], &mut scratch);
     let damage = Damage::of(layout, image, verdict, &scratch);
     let first = |runs: &[(u64, u64)]| runs.first().map(|run| run.0);
     let bad = damage.bad.runs.first().map(|run| (run.l1_index, run.l2_index));
@@ -163,7 +163,7 @@ fn shared_short_and_leaked_clusters() {
 /// The lists cluster by cluster, by the scratch and the counts.
 fn lists_by_counting(image: &[u8], layout: &Layout, round: usize) {
     let mut scratch = vec![0; layout.scratch()];
-    let verdict = check(image, &mut scratch);
+    let verdict = check(image, &[], &mut scratch);
     let damage = Damage::of(layout, image, verdict, &scratch);
     let listed = |runs: &[(u64, u64)], cluster: usize| {
         runs.iter().any(|run| (run.0..run.0 + run.1).contains(&(cluster as u64)))

@@ -3,40 +3,12 @@
 
 mod common;
 
-use ::made::image::{Kind, Made, AUTOCLEAR};
-use ::made::plan::bench_image;
-use ::made::rng::Rng;
-use common::drive::{all_torn, open, usable, Drive, Random};
+use common::drive::{accepted, all_torn, open, usable, Drive, Random};
+use common::kinds::{discard_of, image, write_to, TABLE};
 use common::promise::Promise;
 use qcow2_core::Outcome;
 use qstore::call::Call;
 use qstore::commands::{discard, repair, write};
-use qstore::ordered::Ordered;
-
-const TABLE: usize = 64;
-
-/// Of the guest clusters from 64 on the first has data, the second a zero mark
-/// and a place, the third a zero mark. Free clusters hold old bytes.
-fn image(bits: u64) -> Made {
-    let mut made = bench_image();
-    let table = made.add_table(1).expect("room");
-    for (index, kind) in
-        [Kind::Data, Kind::ZerosWithPlace, Kind::ZerosWithoutPlace].into_iter().enumerate()
-    {
-        assert!(made.add_entry(table, index, kind, &mut Rng::new(1)));
-    }
-    made.bytes[7 * 512..].fill(0xEE);
-    made.put64(AUTOCLEAR, bits);
-    made
-}
-
-fn write_to(guest: usize) -> Call<'static> {
-    Call::Write { offset: 512 * guest as u64, data: &[0x5A; 300] }
-}
-
-fn discard_of(guest: usize) -> Call<'static> {
-    Call::Discard { cluster: guest as u64 }
-}
 
 /// Each kind of call with its flushes.
 fn calls() -> [(Call<'static>, usize); 9] {
@@ -60,7 +32,7 @@ fn flushes_of_calls() {
     for bits in [0, 1] {
         for (call, flushes) in calls() {
             let image = image(bits).bytes;
-            let mut ordered = Ordered::new(Drive::with(&image), image).unwrap();
+            let mut ordered = accepted(Drive::with(&image), image);
             assert!(matches!(ordered.call(&call, u64::MAX), Ok(Outcome::Finished(_))));
             let wanted = flushes + usize::from(bits != 0 && flushes > 0);
             let drive = ordered.into_disk();
@@ -73,7 +45,7 @@ fn flushes_of_calls() {
 #[test]
 fn nothing_to_store() {
     let image = image(0).bytes;
-    let mut ordered = Ordered::new(Drive::with(&image), image).unwrap();
+    let mut ordered = accepted(Drive::with(&image), image);
     let past = Call::Discard { cluster: 128 };
     for (call, flushes) in [(write_to(TABLE), 1), (write_to(TABLE), 1), (past, 1)] {
         let _ = ordered.call(&call, u64::MAX).unwrap();
@@ -81,7 +53,7 @@ fn nothing_to_store() {
         let drive = ordered.into_disk();
         assert_eq!((drive.flushes, drive.open.len()), (flushes, 0));
         let cache = drive.cache.clone();
-        ordered = Ordered::new(drive, cache).unwrap();
+        ordered = accepted(drive, cache);
     }
 }
 
@@ -90,7 +62,7 @@ fn flushes_of_a_repair() {
     for bits in [0, 1] {
         let mut made = image(bits);
         [8, 9, 12, 15].into_iter().for_each(|cluster| made.set_count(cluster, 3));
-        let mut ordered = Ordered::new(Drive::with(&made.bytes), made.bytes).unwrap();
+        let mut ordered = accepted(Drive::with(&made.bytes), made.bytes);
         let units = 4 + bits;
         assert_eq!(ordered.repair(u64::MAX, |_, _| ()).unwrap(), Outcome::Finished(units));
         assert_eq!(ordered.into_disk().flushes, 1 + bits as usize);

@@ -4,7 +4,7 @@ mod common;
 
 use std::fs::OpenOptions;
 
-use common::made::{get64, put64};
+use common::made::{get64, over, put64};
 use common::{bench_image, images, qstore, Copy};
 
 const PLACE: u64 = 0x00FF_FFFF_FFFF_FE00;
@@ -40,7 +40,7 @@ fn numbers(copy: &Copy) -> Vec<u32> {
 #[test]
 fn all_obstacles() {
     type Case<'a> = (&'a [u32], &'a dyn Fn(&mut Vec<u8>));
-    let cases: [Case; 31] = [
+    let cases: [Case; 37] = [
         (&[], &|_| ()),
         (&[1], &|image| image.truncate(511)),
         (&[2], &|image| image[0] = 0),
@@ -51,7 +51,7 @@ fn all_obstacles() {
         (&[5, 6], &|image| (image.truncate(1552), image[103] = 112).1),
         (&[5, 6, 7, 8, 18, 9], &|image| {
             image.push(0);
-            (image[15], image[79], image[24], image[31], image[43]) = (1, 1, 1, 1, 1);
+            (image[35], image[79], image[24], image[31], image[43]) = (1, 1, 1, 1, 1);
         }),
         (&[6, 7], &|image| (image[63], image[79]) = (65, 8)),
         (&[6, 7, 10], &|image| (image[103], image[79], image[518]) = (112, 2, 5)),
@@ -79,6 +79,20 @@ fn all_obstacles() {
         // Without snapshots their table is not looked at.
         (&[6], &|image| (image[63], image[71]) = (65, 1)),
         (&[8, 18, 21], &|image| (image[24], image[31], image[63], image[71]) = (1, 1, 1, 1)),
+        // A name of no byte, a good one, one that is too long, and one past the cluster.
+        (&[19], &|image| image[15] = 200),
+        (&[19], &|image| over(image, b"b.raw", None)),
+        (&[19], &|image| (image[15], image[18]) = (200, 4)),
+        (&[5, 6, 7, 19, 21], &|image| {
+            over(image, b"b.raw", Some(b"raw"));
+            (image[63], image[71], image[79], image[103]) = (1, 1, 1, 112);
+            image.push(0);
+        }),
+        (&[19, 21], &|image| {
+            (image[14], image[15], image[19], image[63], image[71]) = (1, 255, 2, 1, 1)
+        }),
+        // Behind 10 it cannot be asked for.
+        (&[10], &|image| (image[15], image[518]) = (200, 5)),
     ];
     for (index, (wanted, change)) in cases.into_iter().enumerate() {
         let copy = with("obstacles", change);
@@ -127,7 +141,7 @@ fn remedies_in_the_order_of_doing() {
 #[test]
 fn compressed_clusters_are_an_obstacle() {
     let copy = with("obstacle-13", &|image| {
-        _ = qcow2_core::write(image, 0, b"x", u64::MAX);
+        _ = qcow2_core::write(image, &[], 0, b"x", u64::MAX);
         let table = (get64(image, 1536) & PLACE) as usize;
         put64(image, table, 1 << 62 | 4000);
         image[103] = 112;
@@ -164,7 +178,7 @@ fn what_the_header_says() {
         "backing file: \"b.raw\"\n",
         "encryption method: 2\n",
         "snapshots: 65\n  and 65 that cannot be listed\n",
-        "refused (6): the image has a backing file, \"b.raw\"; the disk is encrypted (LUKS); the \
+        "refused (6): the disk is encrypted (LUKS); the \
          image has 65 internal snapshots, and at most 64 are accepted; header_length is 112 as qemu 5.1 and later make it, and \
          only 104 is accepted\n",
     ] {
@@ -173,7 +187,8 @@ fn what_the_header_says() {
     let json = copy.run("info IMAGE --json").text;
     for member in [
         "\"version\": 3, \"file_size\": 8192, \"cluster_size\": 512, \"clusters\": 16,",
-        "\"backing_file\": \"b.raw\", \"crypt_method\": 2, \"snapshots\": 65,",
+        "\"l1_size\": 2, \"crypt_method\": 2, \"snapshots\": 65,",
+        "\"backing_file\": \"b.raw\", \"backing_file_hex\": null, \"backing_format\": null, ",
         "\"refcount_bits\": 1, \"header_length\": 112, \"incompatible_features\": 33,",
         "\"features\": [\"incompatible_features bit 0 (dirty: its counts may be wrong)\", ",
     ] {

@@ -3,13 +3,15 @@
 
 mod common;
 
-use std::fs::File;
+use std::fs::{self, DirEntry, File};
 use std::io::{Read, Write};
+use std::path::Path;
 use std::process::{Child, Command, Stdio};
 use std::sync::{Mutex, MutexGuard, PoisonError};
 use std::time::{Duration, Instant};
 
-use common::{bench_image, Copy};
+use common::made::over;
+use common::{bench_image, Copy, Pair};
 use qstore_sys::{holder, share, share_as_process};
 
 /// What qemu holds: 100 and up for permissions in use, 200 and up for those
@@ -224,4 +226,102 @@ fn a_shared_look_takes_no_lock() {
     running.0.stdout.as_mut().unwrap().read_exact(&mut [0]).unwrap();
     assert!(held(&copy).is_empty());
     assert_eq!(copy.feed("write IMAGE 0", b"x").exit, 0);
+}
+
+/// An image over a backing file, with a table so that a discard is accepted.
+fn over_backing(test: &str) -> Pair {
+    let mut image = bench_image();
+    over(&mut image, b"base.raw", Some(b"raw"));
+    let pair = Pair::with(&image, &[7; 70_000], test);
+    assert_eq!(pair.feed("write IMAGE 5000", b"x").exit, 0);
+    pair
+}
+
+/// The backing file is in use: the command fails, and both files are left alone.
+fn refused_beneath(pair: &Pair, line: &str, sentence: &str) {
+    let before = pair.image.bytes();
+    let answer = pair.feed(line, b"x");
+    assert!(answer.exit == 1 && answer.text.is_empty(), "{line}: {}", answer.error);
+    let about = format!(": backing file {:?}: another program ", pair.backing.path);
+    assert!(answer.error.contains(&about) && answer.error.contains(sentence), "{}", answer.error);
+    assert_eq!(answer.error.contains("--share"), LOOKS.contains(&line), "{}", answer.error);
+    assert!(answer.error.contains("\n  End that program first"), "{}", answer.error);
+    assert!(pair.image.bytes() == before);
+}
+
+#[test]
+fn beside_a_writer_of_the_backing_file() {
+    let _alone = alone();
+    let pair = over_backing("beneath-a-writer");
+    for (bytes, sentence) in [
+        (WRITER, "has it open for writing (permission 'write')"),
+        (&[103], "has it open for writing (permission 'resize')"),
+        (&[200], "does not share the permission 'consistent read'"),
+    ] {
+        let _file = hold(&pair.backing, bytes);
+        LOOKS.iter().chain(&CHANGES).for_each(|line| refused_beneath(&pair, line, sentence));
+        for line in LOOKS {
+            let answer = pair.run(&format!("{line} --share"));
+            assert_eq!(answer.exit, 0, "{line}");
+            assert!(answer.error.ends_with(" was read without a lock as well\n"));
+        }
+    }
+    for line in LOOKS.iter().chain(&CHANGES) {
+        assert_eq!(pair.feed(line, b"x").exit, 0, "{line}");
+    }
+}
+
+/// As qemu has the backing file of a running machine open: a command on another
+/// image over it disturbs nobody, a change of that image neither.
+#[test]
+fn beside_a_reader_of_the_backing_file() {
+    let _alone = alone();
+    let pair = over_backing("beneath-a-reader");
+    for bytes in [READER, SHARER, &[102], &[201, 202, 203]] {
+        let _file = hold(&pair.backing, bytes);
+        for line in LOOKS.iter().chain(&CHANGES) {
+            let answer = pair.feed(line, b"x");
+            assert_eq!(answer.exit, 0, "{line}: {}", answer.error);
+        }
+    }
+}
+
+/// How a process has a file open: 0 for reading, 2 for writing too.
+fn opened_for(process: u32, copy: &Copy) -> Vec<u32> {
+    let process = Path::new("/proc").join(process.to_string());
+    let files = fs::read_dir(process.join("fd")).unwrap().map(|entry| entry.unwrap());
+    let is_this = |link: &DirEntry| fs::read_link(link.path()).is_ok_and(|it| it == copy.path);
+    let access = |link: DirEntry| {
+        let text = fs::read_to_string(process.join("fdinfo").join(link.file_name())).unwrap();
+        let flags = text.lines().find_map(|line| line.strip_prefix("flags:")).unwrap();
+        u32::from_str_radix(flags.trim(), 8).unwrap() & 3
+    };
+    files.filter(is_this).map(access).collect()
+}
+
+/// A write that waits has the image for itself, and the backing file as a reader.
+#[test]
+fn a_waiting_write_shares_the_backing_file() {
+    let _alone = alone();
+    let (pair, other) = (over_backing("beneath-waiting"), over_backing("beneath-other"));
+    let backing = pair.backing.path.to_str().unwrap();
+    let mut running = start(&pair.image, &["write", "0", "--backing", backing]);
+    let due = Instant::now() + Duration::from_secs(20);
+    while held(&pair.backing) != READER && Instant::now() < due {
+        std::thread::sleep(Duration::from_millis(5));
+    }
+    assert_eq!(held(&pair.backing), READER);
+    assert_eq!(opened_for(running.0.id(), &pair.backing), [0]);
+    assert_eq!(opened_for(running.0.id(), &pair.image), [2]);
+    // Another image over the same file.
+    for line in LOOKS.iter().chain(&CHANGES) {
+        let answer = other.image.feed(&format!("{line} --backing {backing}"), b"x");
+        assert_eq!(answer.exit, 0, "{line}: {}", answer.error);
+    }
+    // And the file as an image of its own, which may not be changed now.
+    assert!(pair.backing.feed("write IMAGE 0", b"x").error.contains("a change shares it with"));
+    running.0.stdin.take().unwrap().write_all(b"hello").unwrap();
+    assert!(running.0.wait().unwrap().success());
+    assert!(held(&pair.backing).is_empty());
+    assert_eq!(pair.run("read IMAGE 0 5").text, "hello");
 }

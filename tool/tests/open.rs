@@ -7,10 +7,9 @@ use std::fs::{self, File, OpenOptions};
 use std::os::unix::fs::{FileExt, MetadataExt};
 use std::os::unix::net::UnixListener;
 use std::path::{Path, PathBuf};
-use std::process::{Command, Stdio};
-use std::time::{Duration, Instant};
+use std::process::Command;
 
-use common::{bench_image, Copy};
+use common::{bench_image, ended, Copy};
 use qstore::disk::Disk;
 use qstore::extents;
 
@@ -25,18 +24,7 @@ fn place(name: &str) -> PathBuf {
 fn ends(path: &Path, words: &[&str]) -> String {
     let mut command = Command::new(env!("CARGO_BIN_EXE_qstore"));
     command.arg(words[0]).arg(path).args(&words[1..]);
-    command.stdin(Stdio::null()).stdout(Stdio::null()).stderr(Stdio::piped());
-    let mut child = command.spawn().expect("qstore");
-    let due = Instant::now() + Duration::from_secs(20);
-    while child.try_wait().unwrap().is_none() {
-        if Instant::now() > due {
-            _ = child.kill();
-            _ = child.wait();
-            panic!("it waits");
-        }
-        std::thread::sleep(Duration::from_millis(5));
-    }
-    let output = child.wait_with_output().unwrap();
+    let output = ended(&mut command);
     assert_eq!(output.status.code(), Some(1));
     String::from_utf8_lossy(&output.stderr).into_owned()
 }
@@ -67,9 +55,9 @@ fn what_is_no_regular_file() {
 fn a_file_that_ends_early() {
     let copy = Copy::with(&bench_image(), "ends-early");
     let file = File::open(&copy.path).unwrap();
-    assert!(extents::read(&file, 8192).unwrap() == bench_image());
+    assert!(extents::read(&file, 8192, "reading").unwrap() == bench_image());
     for length in [8193, 1 << 20] {
-        let error = extents::read(&file, length).unwrap_err();
+        let error = extents::read(&file, length, "reading").unwrap_err();
         assert_eq!(error.to_string(), "it became shorter while being read");
     }
     let error = file.load(8000, &mut [0; 512]).unwrap_err();
@@ -100,7 +88,7 @@ fn holes_are_zeros() {
         file.write_all_at(&data, at).unwrap();
         wanted[at as usize..][..len].copy_from_slice(&data);
     }
-    assert!(extents::read(&file, length).unwrap() == wanted);
+    assert!(extents::read(&file, length, "reading").unwrap() == wanted);
     assert!(extents::holds(&file, &wanted).unwrap());
     for at in [0, 5000, 1 << 20, 10 << 20, (32 << 20) + 1, (39 << 20) + 5000, (40 << 20) - 1] {
         wanted[at] ^= 1;

@@ -8,41 +8,15 @@ use std::fs;
 
 use ::made::rng::Rng;
 use ::made::snapshot_drive;
-use common::drive::{all_torn, put, sectors, usable, Drive, Random};
+use common::drive::{accepted, all_torn, put, sectors, usable, Drive, Random};
 use common::made::{get_count, largest, made_at, put_count, Made};
 use common::promise::{verdict, Promise};
+use common::series::series;
 use common::{bench_image, images};
-use qcow2_core::{translate, Found, Outcome, Verdict};
+use qcow2_core::{Outcome, Verdict};
 use qstore::call::Call;
 use qstore::layout::Layout;
-use qstore::ordered::{Fault, Ordered};
-
-/// At times sets autoclear bits, where the image has a field for them.
-fn set_bits(image: &mut [u8], layout: &Layout, random: &mut Random) {
-    if layout.version == 3 && random.below(2) == 1 {
-        image[88 + random.below(8)] = 1 + random.below(255) as u8;
-    }
-}
-
-/// One call on a drive; every state on the way, then the image afterwards.
-fn follow(image: &[u8], call: Call, random: &mut Random) -> Vec<u8> {
-    let mut ordered = usable(Drive::with(image));
-    let outcome = ordered.call(&call, u64::MAX).expect("no fault");
-    let mut wanted = image.to_vec();
-    assert_eq!(call.run(&mut wanted, u64::MAX), outcome);
-    assert!(ordered.is_in_step().unwrap() && ordered.image() == wanted);
-    let drive = ordered.into_disk();
-    assert!(drive.open.is_empty(), "something was not flushed");
-    assert!(drive.epochs[0].is_empty(), "stored before the first flush");
-    assert!(drive.epochs.len() <= 4 && drive.epochs[1..].iter().all(|it| !it.is_empty()));
-    let promise = Promise::of(image, &call);
-    let states = all_torn(image, &drive, random);
-    for state in &states {
-        assert_eq!(promise.fault(state), None);
-    }
-    assert!(states.last() == Some(&wanted));
-    wanted
-}
+use qstore::ordered::Fault;
 
 #[test]
 fn a_cut_anywhere_leaves_a_promised_image() {
@@ -58,7 +32,7 @@ fn a_cut_anywhere_leaves_a_promised_image() {
     ];
     let mut random = Random(1);
     for name in names {
-        series(fs::read(images().join(name)).unwrap(), 24, &mut random);
+        series(fs::read(images().join(name)).unwrap(), &[], 24, &mut random);
     }
 }
 
@@ -82,7 +56,7 @@ fn a_cut_anywhere_at_every_width() {
                 put_count(&mut image[block_at..], order, cluster, largest(order));
             }
             let before = past(&image);
-            let image = series(image, 16, &mut random);
+            let image = series(image, &[], 16, &mut random);
             assert_eq!(past(&image), before);
         }
     }
@@ -102,44 +76,11 @@ fn a_cut_anywhere_beside_snapshots() {
             continue;
         }
         tried += 1;
-        changed += usize::from(series(made.bytes.clone(), 6, &mut random) != made.bytes);
+        changed += usize::from(series(made.bytes.clone(), &[], 6, &mut random) != made.bytes);
     }
     assert!(changed > 30, "{changed}");
     let image = fs::read(images().join("22-v3-512-snapshot.qcow2")).unwrap();
-    series(image, 40, &mut random);
-}
-
-/// Writes to where zero marks are, then discards and writes in turn.
-fn series(mut image: Vec<u8>, turns: usize, random: &mut Random) -> Vec<u8> {
-    let layout = Layout::of(&image).unwrap();
-    // Zero marks first: the clusters below some hold old bytes.
-    let offsets = (0..layout.size).step_by(layout.cluster());
-    let zeros: Vec<u64> = offsets.filter(|&at| translate(&image, at) == Found::Zeros).collect();
-    for offset in zeros {
-        set_bits(&mut image, &layout, random);
-        let data = vec![7; 1 + random.below(300)];
-        image = unless_refused(image, Call::Write { offset: offset + 100, data: &data }, random);
-    }
-    for _ in 0..turns {
-        let cluster = random.below(layout.guest_clusters() as usize) as u64;
-        set_bits(&mut image, &layout, random);
-        image = unless_refused(image, Call::Discard { cluster }, random);
-        set_bits(&mut image, &layout, random);
-        let offset = random.below(layout.size as usize);
-        let room =
-            (layout.cluster() - offset % layout.cluster()).min(layout.size as usize - offset);
-        let data: Vec<u8> = (0..1 + random.below(room)).map(|k| (k % 255) as u8 + 1).collect();
-        image = unless_refused(image, Call::Write { offset: offset as u64, data: &data }, random);
-    }
-    image
-}
-
-/// Unless there is no room, or a snapshot holds what would be changed.
-fn unless_refused(image: Vec<u8>, call: Call, random: &mut Random) -> Vec<u8> {
-    match call.run(&mut image.clone(), 0) {
-        Outcome::Refused(14 | 22) => image,
-        _ => follow(&image, call, random),
-    }
+    series(image, &[], 40, &mut random);
 }
 
 /// The two counts of a list, which may share a byte: they are in one epoch, in
@@ -210,7 +151,7 @@ fn a_drive_that_fails_leaves_the_first_units() {
         let kinds = if order < 3 { "SF SSSF SF" } else { "SF SSSSF SF" }.replace(' ', "");
         for (left, kind) in kinds.chars().enumerate() {
             let drive = Drive { left: Some(left), ..Drive::with(&image) };
-            let mut ordered = Ordered::new(drive, image.clone()).unwrap();
+            let mut ordered = accepted(drive, image.clone());
             match ordered.call(&call, u64::MAX) {
                 Err(Fault::Store(_)) => assert_eq!(kind, 'S'),
                 Err(Fault::Flush(_)) => assert_eq!(kind, 'F'),
@@ -222,7 +163,7 @@ fn a_drive_that_fails_leaves_the_first_units() {
             }
         }
         let drive = Drive { left: Some(kinds.len()), ..Drive::with(&image) };
-        let mut ordered = Ordered::new(drive, image.clone()).unwrap();
+        let mut ordered = accepted(drive, image.clone());
         assert_eq!(ordered.call(&call, u64::MAX).unwrap(), Outcome::Finished(1029));
     }
 }
@@ -241,7 +182,7 @@ fn every_allowance() {
             let mut ordered = usable(Drive::with(&image));
             let outcome = ordered.call(&call, allowance).unwrap();
             let mut wanted = image.clone();
-            assert_eq!(call.run(&mut wanted, allowance), outcome);
+            assert_eq!(call.run(&mut wanted, &[], allowance), outcome);
             assert_eq!(outcome == Outcome::Finished(units), allowance >= units);
             assert!(ordered.is_in_step().unwrap() && ordered.image() == wanted);
             let drive = ordered.into_disk();
@@ -249,7 +190,7 @@ fn every_allowance() {
             let states = all_torn(&image, &drive, &mut Random(allowance));
             assert!(states.iter().all(|state| promise.fault(state).is_none()));
         }
-        call.run(&mut image, u64::MAX);
+        call.run(&mut image, &[], u64::MAX);
     }
 }
 
@@ -278,7 +219,7 @@ fn what_is_out_of_step_is_found() {
         let image = bench_image();
         let mut drive = Drive::with(&image);
         drive.cache[at] ^= 1;
-        let ordered = Ordered::new(drive, image).unwrap();
+        let ordered = accepted(drive, image);
         assert!(!ordered.is_in_step().unwrap());
     }
 }

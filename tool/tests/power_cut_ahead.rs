@@ -40,7 +40,7 @@ fn follow(image: &[u8], ahead: &Stores, drive: &Drive, random: &mut Random) {
 /// The bench image with one written cluster, and the first store of its discard.
 fn half_discarded() -> (Vec<u8>, Stores) {
     let mut image = bench_image();
-    assert_eq!(write(&mut image, 33_285, b"hello", u64::MAX), Outcome::Finished(1028));
+    assert_eq!(write(&mut image, &[], 33_285, b"hello", u64::MAX), Outcome::Finished(1028));
     (image, vec![(2056, vec![0; 8])])
 }
 
@@ -107,7 +107,7 @@ fn filled(order: u32) -> Vec<u8> {
     let mut image = made_at(order, 3, 9, 150, 65_536).image;
     for guest in [0, 1, 5, 63, 64, 70, 127] {
         assert!(matches!(
-            write(&mut image, 512 * guest, &[7; 512], u64::MAX),
+            write(&mut image, &[], 512 * guest, &[7; 512], u64::MAX),
             Outcome::Finished(_)
         ));
     }
@@ -144,7 +144,7 @@ fn a_failed_first_flush() {
     says_no_more_than_is_known(&failure);
     assert!(drive.epochs.is_empty() && drive.open == ahead);
     // Looking needs no flush.
-    let looked = ImageFile::read(Path::new("drive"), &mut drive, Access::Look, false);
+    let looked = ImageFile::read(Path::new("drive"), &mut drive, Access::Look, false, None);
     assert!(looked.ok().unwrap().bytes == drive.cache);
 }
 
@@ -208,7 +208,7 @@ impl Disk for Failing<'_> {
 fn failed_loads() {
     let mut image = bench_image();
     for offset in [32_768, 33_280] {
-        assert!(matches!(write(&mut image, offset, b"x", u64::MAX), Outcome::Finished(_)));
+        assert!(matches!(write(&mut image, &[], offset, b"x", u64::MAX), Outcome::Finished(_)));
     }
     let mut kinds = vec![];
     for loads in 0.. {

@@ -5,11 +5,10 @@ mod common;
 
 use ::made::rng::Rng;
 use ::made::snapshot_drive;
-use common::drive::{all_torn, Drive, Random};
+use common::drive::{accepted, all_torn, Drive, Random};
 use common::made::{get_count, largest, made_at, put_count, Made};
 use common::promise::{verdict, Promise};
 use qcow2_core::{repair, Outcome, Verdict};
-use qstore::ordered::Ordered;
 
 /// Clusters of 1,024 bytes, every third free one leaks. Those past the end have
 /// counts too, which are not looked at.
@@ -72,9 +71,9 @@ fn the_clearing_unit_is_the_first() {
         }
         // A drive that does not make that flush is found out.
         let drive = Drive { deaf: Some(0), ..Drive::with(&image) };
-        let mut ordered = Ordered::new(drive, image.clone()).unwrap();
+        let mut ordered = accepted(drive, image.clone());
         assert_eq!(ordered.repair(u64::MAX, |_, _| ()).unwrap(), Outcome::Finished(leaks + 1));
-        let promise = Promise::of_repair(&image);
+        let promise = Promise::of_repair(&image, &[]);
         let states = all_torn(&image, &ordered.into_disk(), &mut Random(order.into()));
         assert!(states.iter().any(|state| promise.fault(state).is_some()));
     }
@@ -111,10 +110,10 @@ fn leaks_beside_snapshots() {
 
 /// A drive after a repair, which did what the core does.
 fn repaired(image: &[u8], allowance: u64) -> Drive {
-    let mut ordered = Ordered::new(Drive::with(image), image.to_vec()).unwrap();
+    let mut ordered = accepted(Drive::with(image), image.to_vec());
     let outcome = ordered.repair(allowance, |_, _| ()).unwrap();
     let (mut wanted, mut scratch) = (image.to_vec(), vec![0; image.len() / 256]);
-    assert_eq!(outcome, repair(&mut wanted, &mut scratch, allowance));
+    assert_eq!(outcome, repair(&mut wanted, &[], &mut scratch, allowance));
     assert!(ordered.is_in_step().unwrap() && ordered.image() == wanted);
     ordered.into_disk()
 }
@@ -125,7 +124,7 @@ fn flushes(image: &[u8], leaks: u64, units: u64, allowance: u64) -> usize {
     assert_eq!(verdict(image), Verdict::Leaks(leaks));
     let drive = repaired(image, allowance);
     assert!(drive.open.is_empty());
-    let promise = Promise::of_repair(image);
+    let promise = Promise::of_repair(image, &[]);
     for state in all_torn(image, &drive, &mut Random(allowance)) {
         assert_eq!(promise.fault(&state), None);
     }
@@ -140,7 +139,7 @@ fn progress() {
     let (mut image, leaks) = leaking(4, 45);
     image[90] = 5;
     for (allowance, wanted) in [(u64::MAX, vec![1, leaks + 1]), (3, vec![1, 3]), (1, vec![1])] {
-        let mut ordered = Ordered::new(Drive::with(&image), image.clone()).unwrap();
+        let mut ordered = accepted(Drive::with(&image), image.clone());
         let mut said = vec![];
         let outcome = ordered.repair(allowance, |done, total| {
             assert_eq!(total, leaks + 1);
@@ -154,7 +153,7 @@ fn progress() {
 #[test]
 fn a_sound_image_is_left_alone() {
     let image = common::bench_image();
-    let mut ordered = Ordered::new(Drive::with(&image), image).unwrap();
+    let mut ordered = accepted(Drive::with(&image), image);
     let outcome = ordered.repair(u64::MAX, |_, _| panic!("nothing to do"));
     assert_eq!(outcome.unwrap(), Outcome::Finished(0));
     assert_eq!(ordered.into_disk().flushes, 0);

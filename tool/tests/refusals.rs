@@ -62,7 +62,7 @@ fn headers() {
         (5, "it seems to be cut short", &|image| image[23] = 21),
         (5, "it seems to be cut short", &|image| image.truncate(1100)),
         (5, "`truncate -s %512 ", &|image| image.push(0)),
-        (6, "backing file", &|image| image[15] = 1),
+        (19, "a backing file whose name has no byte", &|image| image[15] = 1),
         (6, "LUKS", &|image| image[35] = 2),
         (6, "65 internal snapshots, and at most 64 are accepted", &|image| image[63] = 65),
         (6, "refcount_order is 7, and only 0 to 6 are accepted", &|image| image[99] = 7),
@@ -171,7 +171,7 @@ fn damage() {
     let map = copy.run("map IMAGE");
     assert!(map.exit == 1 && map.text.contains("\n15360\t512\trefused\t12\n"));
     let compressed = with("compressed", &|image| {
-        _ = qcow2_core::write(image, 0, b"x", u64::MAX);
+        _ = qcow2_core::write(image, &[], 0, b"x", u64::MAX);
         image[2048] |= 0x40;
     });
     refused(&compressed, "read IMAGE 0 1", &[], 13, "a compressed cluster");

@@ -7,8 +7,9 @@ use std::fs::OpenOptions;
 use std::path::Path;
 
 use common::drive::Random;
-use common::made::made;
+use common::made::{made, over};
 use common::Copy;
+use qstore::backing::Backing;
 use qstore::sentences::{refusal, Request, Subject};
 
 fn data(len: usize, seed: usize) -> Vec<u8> {
@@ -68,7 +69,7 @@ fn partly_allocated_ranges() {
         for _ in 0..30 {
             let offset = 512 * random.below(300) as u64;
             assert!(matches!(
-                qcow2_core::write(&mut image, offset, &[3; 512], u64::MAX),
+                qcow2_core::write(&mut image, &[], offset, &[3; 512], u64::MAX),
                 qcow2_core::Outcome::Finished(_)
             ));
         }
@@ -111,8 +112,32 @@ fn where_the_file_cannot_be_lengthened_enough() {
 
 /// What is said of a write of that length, without its bytes.
 fn said(image: &[u8], length: u64) -> String {
-    let subject = Subject { path: Path::new("a"), length: image.len() as u64, bytes: image };
+    said_over(image, Backing::default(), length)
+}
+
+fn said_over(image: &[u8], backing: Backing, length: u64) -> String {
+    let subject = Subject::of(Path::new("a"), image, &backing);
     refusal(14, &subject, Request::Write { offset: 0, length, whole: true }).advice
+}
+
+/// A new image has the backing file's bytes too, as far as the disk goes and they
+/// are not zeros.
+#[test]
+fn room_beside_the_backing_file() {
+    let mut image = made(3, 9, 1200, 1 << 30).image;
+    over(&mut image, b"b.raw", Some(b"raw"));
+    let beneath = |filled: usize, length: usize| {
+        let mut bytes = vec![0; length];
+        bytes[..filled].fill(1);
+        let mut backing = Backing::named(Some(Path::new("b")));
+        backing.bytes = bytes;
+        said_over(&image, backing, 1 << 29)
+    };
+    let fits = beneath(1 << 28, 3 << 29);
+    assert!(fits.contains("`qemu-img convert --image-opts "), "{fits}");
+    assert!(fits.contains(",backing.file.filename=b a.new "), "{fits}");
+    let most = beneath((1 << 29) + (1 << 20), 1 << 30);
+    assert!(most.contains("does not fit") && !most.contains('`'), "{most}");
 }
 
 #[test]

@@ -37,7 +37,7 @@ fn the_file_is_what_the_core_leaves() {
         let answer = copy.feed(&format!("write IMAGE 33000 --allowance {cut}"), &data);
         let mut left = cut;
         for (offset, part) in [(33_000, &data[..280]), (33_280, &data[280..])] {
-            match qcow2_core::write(&mut memory, offset, part, left) {
+            match qcow2_core::write(&mut memory, &[], offset, part, left) {
                 qcow2_core::Outcome::Finished(units) => left -= units,
                 _ => break,
             }
@@ -81,7 +81,7 @@ fn long_clusters() {
         let mut memory = with_clusters(21, 8, 1 << 40);
         let copy = Copy::with(&memory, "long-clusters");
         copy.feed(&format!("write IMAGE {offset} --allowance {cut}"), b"hello");
-        qcow2_core::write(&mut memory, offset, b"hello", cut);
+        qcow2_core::write(&mut memory, &[], offset, b"hello", cut);
         assert!(copy.bytes() == memory, "cut at {cut}");
         let check = copy.run("check IMAGE");
         assert!(leaks == 0 || check.text.starts_with(&format!("leaks {leaks} ")), "{}", check.text);

@@ -24,7 +24,7 @@ fn layout(image: &[u8]) -> Layout {
 
 fn checked(image: &[u8]) -> (Verdict, Vec<u8>) {
     let mut scratch = vec![0; layout(image).scratch()];
-    (check(image, &mut scratch), scratch)
+    (check(image, &[], &mut scratch), scratch)
 }
 
 fn spoiled(rng: &mut Rng, kinds: &[Spoil], most: u64) -> Made {
@@ -104,7 +104,7 @@ fn the_first_is_the_verdict() {
     for round in 0..900 {
         let made = snapshot_drive::any(&mut rng);
         let mut scratch = vec![0; made.bytes.len() / 256];
-        let verdict = check(&made.bytes, &mut scratch);
+        let verdict = check(&made.bytes, &[], &mut scratch);
         if matches!(verdict, Verdict::Refused(_)) {
             continue;
         }
@@ -236,7 +236,7 @@ fn shared_clusters_by_hand() {
             _ => snapshot_drive::any(&mut rng),
         };
         let (image, mut scratch) = (&made.bytes, vec![0; made.bytes.len() / 256]);
-        if matches!(check(image, &mut scratch), Verdict::Refused(_)) {
+        if matches!(check(image, &[], &mut scratch), Verdict::Refused(_)) {
             continue;
         }
         let visits = visits(image);

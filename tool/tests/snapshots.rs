@@ -234,11 +234,11 @@ fn a_long_read() {
     let mut image = made.image;
     for offset in (0..6 << 20).step_by(65_536) {
         let data: Vec<u8> = (0..65_536).map(|k| (k + offset / 509) as u8).collect();
-        let outcome = qcow2_core::write(&mut image, offset, &data, u64::MAX);
+        let outcome = qcow2_core::write(&mut image, &[], offset, &data, u64::MAX);
         assert!(matches!(outcome, qcow2_core::Outcome::Finished(_)));
     }
     let mut guest = vec![0; 8 << 20];
-    qcow2_core::read(&image, 0, &mut guest).unwrap();
+    qcow2_core::read(&image, &[], 0, &mut guest).unwrap();
     // The snapshot's L1 table is the disk's: damaged, but it is read.
     let last = image.len() - 65_536;
     let entry = Entry { size: None, ..named("7", "whole") };

@@ -125,7 +125,7 @@ fn too_little_memory() {
         let said = [ended.stdout, ended.stderr].concat();
         let said = String::from_utf8_lossy(&said);
         assert_eq!(ended.status.code(), Some(1), "{words}: {said}");
-        let fault = format!("there is not enough memory for an image of {LENGTH} bytes");
+        let fault = format!("there is not enough memory for its {LENGTH} bytes");
         assert!(said.contains(&fault), "{words}: {said}");
     }
 }

@@ -69,7 +69,7 @@ fn long_clusters() {
             let mut memory = made_at(order, 3, 21, 8, 1 << 30).image;
             let copy = Copy::with(&memory, "width-long");
             copy.feed(&format!("write IMAGE 5000000 --allowance {cut}"), b"hello");
-            _ = qcow2_core::write(&mut memory, 5_000_000, b"hello", cut);
+            _ = qcow2_core::write(&mut memory, &[], 5_000_000, b"hello", cut);
             assert!(copy.bytes() == memory, "cut at {cut}");
             let check = copy.run("check IMAGE").text;
             assert!(leaks == 0 || check.starts_with(&format!("leaks {leaks} ")), "{check}");
@@ -92,12 +92,12 @@ fn there_and_back() {
             assert_eq!(answer.exit, 0, "{}", answer.error);
             disk[offset..offset + len].copy_from_slice(&data);
             for call in qstore::call::writes(offset as u64, &data, 9) {
-                assert!(matches!(call.run(&mut memory, u64::MAX), Outcome::Finished(_)));
+                assert!(matches!(call.run(&mut memory, &[], u64::MAX), Outcome::Finished(_)));
             }
         }
         assert_eq!(copy.run("discard IMAGE 40448 2048").exit, 0);
         disk[40_448..42_496].fill(0);
-        (79..83).for_each(|cluster| _ = qcow2_core::discard(&mut memory, cluster, u64::MAX));
+        (79..83).for_each(|cluster| _ = qcow2_core::discard(&mut memory, &[], cluster, u64::MAX));
         assert!(copy.bytes() == memory && guest_by_tables(&memory) == disk);
         assert!(copy.run("read IMAGE 0 64k").out == disk);
         assert_eq!(copy.run("check IMAGE").text, "sound\n");
@@ -116,7 +116,7 @@ fn cut_check_repair_read() {
             let mut image = made_at(order, 3, 9, 16, 65_536).image;
             let copy = Copy::with(&image, "width-cut");
             copy.feed(&format!("write IMAGE 33285 --allowance {cut}"), b"hello");
-            _ = qcow2_core::write(&mut image, 33_285, b"hello", cut);
+            _ = qcow2_core::write(&mut image, &[], 33_285, b"hello", cut);
             assert!(copy.bytes() == image, "cut at {cut}");
             let check = copy.run("check IMAGE");
             assert_eq!(check.exit, if leaked == 0 { 0 } else { 3 });
@@ -142,7 +142,7 @@ fn damage_by_count() {
         let Made { mut image, block_at, .. } = made_at(order, 3, 9, 150, 65_536);
         for guest in 0..30 {
             assert!(matches!(
-                qcow2_core::write(&mut image, 512 * guest, &[9; 512], u64::MAX),
+                qcow2_core::write(&mut image, &[], 512 * guest, &[9; 512], u64::MAX),
                 Outcome::Finished(_)
             ));
         }
@@ -152,7 +152,7 @@ fn damage_by_count() {
         }
         let layout = Layout::of(&image).unwrap();
         let mut scratch = vec![0; 300];
-        let verdict = check(&image, &mut scratch);
+        let verdict = check(&image, &[], &mut scratch);
         let damage = Damage::of(&layout, &image, verdict, &scratch);
         let flat = |runs: &[(u64, u64)]| -> Vec<u64> {
             runs.iter().flat_map(|&(first, number)| first..first + number).collect()
@@ -201,7 +201,7 @@ fn the_order_of_version_2() {
         assert_eq!(copy.run("check IMAGE").text, "sound\n");
         assert!(copy.run("info IMAGE").text.contains("\nrefcount bits: 16\n"));
         assert_eq!(copy.feed("write IMAGE 33285", b"hello").exit, 0);
-        _ = qcow2_core::write(&mut image, 33_285, b"hello", u64::MAX);
+        _ = qcow2_core::write(&mut image, &[], 33_285, b"hello", u64::MAX);
         assert!(copy.bytes() == image && image[1033] == 1);
         assert_eq!(copy.run("read IMAGE 33285 5").out, b"hello");
     }

@@ -2,8 +2,10 @@
 //! implementations can be fed the same requests.
 #![forbid(unsafe_code)]
 
+mod calls;
 mod steps;
 
+pub use calls::{Calls, Over};
 pub use steps::{Geometry, Step, STEP};
 
 /// What stands behind one guest offset.
@@ -98,140 +100,4 @@ impl Verdict {
     pub fn is_usable(self) -> bool {
         matches!(self, Verdict::Sound | Verdict::Leaks(_))
     }
-}
-
-/// The calls of one implementation.
-pub trait Calls {
-    fn name(&self) -> &'static str;
-    fn geometry(&self, image: &[u8]) -> Result<Geometry, u32>;
-    fn translate(&self, image: &[u8], offset: u64) -> Found;
-    fn read(&self, image: &[u8], offset: u64, out: &mut [u8]) -> Result<(), u32>;
-    /// The same through the L1 table of a snapshot, which is named by its number.
-    fn read_snapshot(
-        &self,
-        image: &[u8],
-        snapshot: u64,
-        offset: u64,
-        out: &mut [u8],
-    ) -> Result<(), u32>;
-    fn lookup<'a>(&self, image: &'a [u8], offset: u64) -> &'a [u8];
-    /// Fills rows of three numbers with the runs of the range; how many.
-    fn runs(&self, image: &[u8], offset: u64, len: u64, rows: &mut [u64]) -> Result<usize, u32>;
-    fn write(&self, image: &mut [u8], offset: u64, data: &[u8], allowance: u64) -> Outcome;
-    fn discard(&self, image: &mut [u8], cluster: u64, allowance: u64) -> Outcome;
-    fn repair(&self, image: &mut [u8], scratch: &mut [u8], allowance: u64) -> Outcome;
-    /// Fills rows of four numbers with the steps of a write of `len` bytes; how
-    /// many.
-    fn write_steps(
-        &self,
-        image: &[u8],
-        offset: u64,
-        len: u64,
-        rows: &mut [u64],
-    ) -> Result<usize, u32>;
-    /// The same for a discard.
-    fn discard_steps(&self, image: &[u8], cluster: u64, rows: &mut [u64]) -> Result<usize, u32>;
-    /// The same for a repair.
-    fn repair_steps(
-        &self,
-        image: &[u8],
-        scratch: &mut [u8],
-        rows: &mut [u64],
-    ) -> Result<usize, u32>;
-    fn check(&self, image: &[u8], scratch: &mut [u8]) -> Verdict;
-    fn difference(&self, stored: u64, figure: u16) -> i32;
-}
-
-/// Implements [`Calls`] for a unit struct by the free functions of the crate
-/// that invokes it.
-#[macro_export]
-macro_rules! calls_by_functions {
-    ($side:ident, $name:literal) => {
-        impl $crate::Calls for $side {
-            fn name(&self) -> &'static str {
-                $name
-            }
-            fn geometry(&self, image: &[u8]) -> Result<$crate::Geometry, u32> {
-                geometry(image)
-            }
-            fn translate(&self, image: &[u8], offset: u64) -> $crate::Found {
-                translate(image, offset)
-            }
-            fn read(&self, image: &[u8], offset: u64, out: &mut [u8]) -> Result<(), u32> {
-                read(image, offset, out)
-            }
-            fn read_snapshot(
-                &self,
-                image: &[u8],
-                snapshot: u64,
-                offset: u64,
-                out: &mut [u8],
-            ) -> Result<(), u32> {
-                read_snapshot(image, snapshot, offset, out)
-            }
-            fn lookup<'a>(&self, image: &'a [u8], offset: u64) -> &'a [u8] {
-                lookup(image, offset)
-            }
-            fn runs(
-                &self,
-                image: &[u8],
-                offset: u64,
-                len: u64,
-                rows: &mut [u64],
-            ) -> Result<usize, u32> {
-                runs(image, offset, len, rows)
-            }
-            fn write(
-                &self,
-                image: &mut [u8],
-                offset: u64,
-                data: &[u8],
-                allowance: u64,
-            ) -> $crate::Outcome {
-                write(image, offset, data, allowance)
-            }
-            fn discard(&self, image: &mut [u8], cluster: u64, allowance: u64) -> $crate::Outcome {
-                discard(image, cluster, allowance)
-            }
-            fn repair(
-                &self,
-                image: &mut [u8],
-                scratch: &mut [u8],
-                allowance: u64,
-            ) -> $crate::Outcome {
-                repair(image, scratch, allowance)
-            }
-            fn write_steps(
-                &self,
-                image: &[u8],
-                offset: u64,
-                len: u64,
-                rows: &mut [u64],
-            ) -> Result<usize, u32> {
-                write_steps(image, offset, len, rows)
-            }
-            fn discard_steps(
-                &self,
-                image: &[u8],
-                cluster: u64,
-                rows: &mut [u64],
-            ) -> Result<usize, u32> {
-                discard_steps(image, cluster, rows)
-            }
-            fn repair_steps(
-                &self,
-                image: &[u8],
-                scratch: &mut [u8],
-                rows: &mut [u64],
-            ) -> Result<usize, u32> {
-                repair_steps(image, scratch, rows)
-            }
-            fn check(&self, image: &[u8], scratch: &mut [u8]) -> $crate::Verdict {
-                check(image, scratch)
-            }
-            fn difference(&self, stored: u64, figure: u16) -> i32 {
-                difference(stored, figure)
-            }
-        }
-    };
 }

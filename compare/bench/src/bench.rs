@@ -2,7 +2,7 @@
 
 use std::time::{Duration, Instant};
 
-use answers::Calls;
+use answers::Over;
 use made::image::Made;
 use made::rng::setting;
 use plain::Plain;
@@ -24,8 +24,8 @@ pub struct Bench {
     pub runs: usize,
 }
 
-/// One timed run of a side.
-pub type Run<'a> = &'a dyn Fn(&dyn Calls, &mut Buffers) -> Duration;
+/// One timed run of a side, which is lent the image's backing file.
+pub type Run<'a> = &'a dyn Fn(Over, &mut Buffers) -> Duration;
 
 pub fn timed(work: impl FnOnce()) -> Duration {
     let start = Instant::now();
@@ -64,7 +64,7 @@ impl Bench {
     /// The times of core and plain, rising; the side that goes first changes
     /// each time, and the first round, which warms up, is not counted.
     fn times(&self, made: &Made, calls: usize, restored: bool, run: Run) -> [Vec<f64>; 2] {
-        let sides: [&dyn Calls; 2] = [&Core, &Plain];
+        let sides = [made.over(&Core), made.over(&Plain)];
         let mut buffers = Buffers {
             image: made.bytes.clone(),
             scratch: vec![0; made.scratch()],

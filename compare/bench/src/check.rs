@@ -1,6 +1,6 @@
 //! The check of full images.
 
-use answers::{Calls, Verdict};
+use answers::{Over, Verdict};
 use made::full::{self, Layout, Shape, LENGTH};
 use made::image::{Kind, Made, USED};
 use made::rng::Rng;
@@ -86,7 +86,7 @@ fn marks(bench: &Bench) {
 }
 
 pub fn check(bench: &Bench, name: &str, made: &Made, expected: Verdict) {
-    bench.row(name, made, 1, &|side: &dyn Calls, buffers: &mut Buffers| {
+    bench.row(name, made, 1, &|side: Over, buffers: &mut Buffers| {
         timed(|| {
             let verdict = side.check(&buffers.image, &mut buffers.scratch);
             assert_eq!(verdict, expected);

@@ -8,7 +8,7 @@
 
 use std::ops::Range;
 
-use answers::{Calls, Outcome};
+use answers::{Outcome, Over};
 use made::full::{self, Shape, LENGTH};
 use made::image::Made;
 
@@ -67,10 +67,10 @@ fn no_common_bit(bench: &Bench, bits: u32) {
 /// The call that stores nothing, and its search alone.
 pub fn searches(bench: &Bench, name: &str, made: &Made, guest: u64, answer: Outcome) {
     let bits = made.cluster_bits;
-    let search = |side: &dyn Calls, buffers: &mut Buffers| {
+    let search = |side: Over, buffers: &mut Buffers| {
         timed(|| (0..CALLS).for_each(|_| try_write(side, buffers, guest << bits, answer)))
     };
-    let alone = |side: &dyn Calls, buffers: &mut Buffers| {
+    let alone = |side: Over, buffers: &mut Buffers| {
         let idle = timed(|| {
             (0..CALLS).for_each(|_| try_write(side, buffers, 0, Outcome::Stopped(0)));
         });
@@ -83,7 +83,7 @@ pub fn searches(bench: &Bench, name: &str, made: &Made, guest: u64, answer: Outc
 }
 
 /// A write of one byte with allowance 0.
-fn try_write(side: &dyn Calls, buffers: &mut Buffers, offset: u64, answer: Outcome) {
+fn try_write(side: Over, buffers: &mut Buffers, offset: u64, answer: Outcome) {
     let data = &buffers.out[..1];
     assert_eq!(side.write(&mut buffers.image, offset, data, 0), answer);
 }
@@ -97,7 +97,7 @@ fn whole_write(
     undo: &[Range<usize>],
     units: u64,
 ) {
-    let run = |side: &dyn Calls, buffers: &mut Buffers| {
+    let run = |side: Over, buffers: &mut Buffers| {
         let once = |_| {
             let data = &buffers.out[..1];
             let time = timed(|| {

@@ -1,8 +1,9 @@
 //! Times the proved core and the plain implementation side by side and prints
 //! tables of ratios. An argument chooses one family of cases: check, short,
-//! shared, snapshots, free, read, map, store, long or widths.
+//! shared, snapshots, free, read, backed, map, store, long or widths.
 #![forbid(unsafe_code)]
 
+mod backed;
 mod bench;
 mod check;
 mod damaged;
@@ -16,13 +17,14 @@ mod widths;
 
 use bench::Bench;
 
-const FAMILIES: [(&str, fn(&Bench)); 10] = [
+const FAMILIES: [(&str, fn(&Bench)); 11] = [
     ("check", check::run),
     ("short", damaged::short),
     ("shared", damaged::shared),
     ("snapshots", snapshots::run),
     ("free", free::run),
     ("read", read::run),
+    ("backed", backed::run),
     ("map", map::run),
     ("store", store::run),
     ("long", long::run),

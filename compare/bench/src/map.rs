@@ -2,7 +2,7 @@
 
 use std::hint::black_box;
 
-use answers::Calls;
+use answers::Over;
 use made::full::{self, Layout, Shape};
 use made::image::{Kind, Made};
 
@@ -64,7 +64,7 @@ fn changed(bits: u32, change: Change) -> Made {
 
 fn row(bench: &Bench, name: &str, made: &Made) {
     let size = made.size;
-    bench.row(name, made, 1, &|side: &dyn Calls, buffers: &mut Buffers| {
+    bench.row(name, made, 1, &|side: Over, buffers: &mut Buffers| {
         let mut rows = vec![0; 3 * ROWS];
         timed(|| {
             let mut at = 0;

@@ -1,6 +1,7 @@
 //! The C interface of `libqcow2_c.a`. Each call answers 0 for done, 1 to 999
 //! for a refusal, or one of the codes below, and stores each number that it is
-//! lent, 0 for a refusal; nothing is allocated and nothing global is touched.
+//! lent, 0 for a refusal; nothing is allocated and nothing global is touched. The
+//! calls without a backing file are inline functions of the C header over these.
 
 pub const STOPPED: u32 = 1001;
 pub const LEAKS: u32 = 1004;
@@ -14,87 +15,128 @@ pub const MARK_L1: u32 = 1011;
 pub const MARK_L2: u32 = 1012;
 
 extern "C" {
-    pub fn qcow2_geometry(
+    pub fn qcow2_backed_geometry(
         image: *const u8,
         n: usize,
+        backing: *const u8,
+        b: usize,
         cluster_bits: *mut u64,
         size: *mut u64,
         clusters: *mut u64,
     ) -> u32;
-    pub fn qcow2_translate(image: *const u8, n: usize, offset: u64, host: *mut u64) -> u32;
-    pub fn qcow2_read(image: *const u8, n: usize, offset: u64, out: *mut u8, out_len: usize)
-        -> u32;
-    pub fn qcow2_read_snapshot(
+    pub fn qcow2_backing_name(image: *const u8, n: usize, at: *mut u64, len: *mut u64) -> u32;
+    pub fn qcow2_backed_translate(
         image: *const u8,
         n: usize,
+        backing: *const u8,
+        b: usize,
+        offset: u64,
+        host: *mut u64,
+    ) -> u32;
+    pub fn qcow2_backed_read(
+        image: *const u8,
+        n: usize,
+        backing: *const u8,
+        b: usize,
+        offset: u64,
+        out: *mut u8,
+        out_len: usize,
+    ) -> u32;
+    pub fn qcow2_backed_read_snapshot(
+        image: *const u8,
+        n: usize,
+        backing: *const u8,
+        b: usize,
         snapshot: u64,
         offset: u64,
         out: *mut u8,
         out_len: usize,
     ) -> u32;
-    pub fn qcow2_lookup(image: *const u8, n: usize, offset: u64) -> usize;
-    pub fn qcow2_runs(
+    pub fn qcow2_backed_lookup(
         image: *const u8,
         n: usize,
+        backing: *const u8,
+        b: usize,
+        offset: u64,
+    ) -> usize;
+    pub fn qcow2_backed_runs(
+        image: *const u8,
+        n: usize,
+        backing: *const u8,
+        b: usize,
         offset: u64,
         len: u64,
         rows: *mut u64,
         m: usize,
         count: *mut u64,
     ) -> u32;
-    pub fn qcow2_write(
+    pub fn qcow2_backed_write(
         image: *mut u8,
         n: usize,
+        backing: *const u8,
+        b: usize,
         offset: u64,
         data: *const u8,
         len: usize,
         allowance: u64,
         units: *mut u64,
     ) -> u32;
-    pub fn qcow2_discard(
+    pub fn qcow2_backed_discard(
         image: *mut u8,
         n: usize,
+        backing: *const u8,
+        b: usize,
         cluster: u64,
         allowance: u64,
         units: *mut u64,
     ) -> u32;
-    pub fn qcow2_repair(
+    pub fn qcow2_backed_repair(
         image: *mut u8,
         n: usize,
+        backing: *const u8,
+        b: usize,
         scratch: *mut u8,
         m: usize,
         allowance: u64,
         units: *mut u64,
     ) -> u32;
-    pub fn qcow2_write_steps(
+    pub fn qcow2_backed_write_steps(
         image: *const u8,
         n: usize,
+        backing: *const u8,
+        b: usize,
         offset: u64,
         len: u64,
         rows: *mut u64,
         m: usize,
         count: *mut u64,
     ) -> u32;
-    pub fn qcow2_discard_steps(
+    pub fn qcow2_backed_discard_steps(
         image: *const u8,
         n: usize,
+        backing: *const u8,
+        b: usize,
         cluster: u64,
         rows: *mut u64,
         m: usize,
         count: *mut u64,
     ) -> u32;
-    pub fn qcow2_repair_steps(
+    pub fn qcow2_backed_repair_steps(
         image: *const u8,
         n: usize,
+        backing: *const u8,
+        b: usize,
         scratch: *mut u8,
         scratch_len: usize,
         rows: *mut u64,
         m: usize,
         count: *mut u64,
     ) -> u32;
-    pub fn qcow2_check(
+    pub fn qcow2_backed_check(
         image: *const u8,
         n: usize,
+        backing: *const u8,
+        b: usize,
         scratch: *mut u8,
         m: usize,
         first: *mut u64,

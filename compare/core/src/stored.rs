@@ -7,7 +7,7 @@ use made::plan::bench_image;
 use made::rng::Rng;
 use made::snapshots::keep_all;
 
-use crate::ffi;
+use crate::{ffi, lend};
 
 const ALL: u64 = u64::MAX;
 /// What the numbers hold before a call; no call gives it.
@@ -25,6 +25,7 @@ const OFFSET: u64 = GUEST * 512;
 #[derive(Clone, Copy, Debug)]
 enum Call {
     Geometry,
+    BackingName,
     Translate(u64),
     Read(u64),
     ReadSnapshot(u64, u64),
@@ -42,6 +43,7 @@ enum Call {
 #[derive(Clone, PartialEq)]
 struct Lent {
     image: Vec<u8>,
+    backing: Vec<u8>,
     bytes: [u8; 3],
     rows: [u64; ROWS],
     scratch: [u8; SCRATCH + 1],
@@ -49,60 +51,90 @@ struct Lent {
 
 impl Lent {
     fn of(made: &Made) -> Lent {
-        let scratch = [0x5A; SCRATCH + 1];
-        Lent { image: made.bytes.clone(), bytes: *b"abc", rows: [HELD; ROWS], scratch }
+        let (image, backing) = (made.bytes.clone(), made.backing.clone());
+        let (rows, scratch) = ([HELD; ROWS], [0x5A; SCRATCH + 1]);
+        Lent { image, backing, bytes: *b"abc", rows, scratch }
     }
 
     /// Makes the call; its answer, and its numbers after it.
     fn call(&mut self, call: Call) -> (u32, Vec<u64>) {
         let (image, n) = (self.image.as_mut_ptr(), self.image.len());
+        let (backing, b) = lend(&self.backing);
         let (bytes, len) = (self.bytes.as_mut_ptr(), self.bytes.len());
         let (rows, figures) = (self.rows.as_mut_ptr(), self.scratch.as_mut_ptr());
-        let [a, b, c] = &mut [HELD; 3];
+        let [x, y, z] = &mut [HELD; 3];
+        macro_rules! over {
+            ($call:ident, $($arg:expr),+) => { ffi::$call(image, n, backing, b, $($arg),+) };
+        }
+        assert!(call.room() <= self.rows.len() && call.scratch() <= self.scratch.len());
         // SAFETY: see the head of lib.rs; no call is lent more rows or scratch than there are.
         let code = unsafe {
             match call {
-                Call::Geometry => ffi::qcow2_geometry(image, n, a, b, c),
-                Call::Translate(offset) => ffi::qcow2_translate(image, n, offset, a),
-                Call::Read(offset) => ffi::qcow2_read(image, n, offset, bytes, len),
+                Call::Geometry => over!(qcow2_backed_geometry, x, y, z),
+                Call::BackingName => ffi::qcow2_backing_name(image, n, x, y),
+                Call::Translate(offset) => over!(qcow2_backed_translate, offset, x),
+                Call::Read(offset) => over!(qcow2_backed_read, offset, bytes, len),
                 Call::ReadSnapshot(snapshot, offset) => {
-                    ffi::qcow2_read_snapshot(image, n, snapshot, offset, bytes, len)
+                    over!(qcow2_backed_read_snapshot, snapshot, offset, bytes, len)
                 }
                 Call::Runs { offset, len, room } => {
-                    assert!(room <= self.rows.len());
-                    ffi::qcow2_runs(image, n, offset, len, rows, room, a)
+                    over!(qcow2_backed_runs, offset, len, rows, room, x)
                 }
                 Call::Write { offset, allowance } => {
-                    ffi::qcow2_write(image, n, offset, bytes, len, allowance, a)
+                    over!(qcow2_backed_write, offset, bytes, len, allowance, x)
                 }
                 Call::Discard { cluster, allowance } => {
-                    ffi::qcow2_discard(image, n, cluster, allowance, a)
+                    over!(qcow2_backed_discard, cluster, allowance, x)
                 }
                 Call::Repair { scratch, allowance } => {
-                    assert!(scratch <= self.scratch.len());
-                    ffi::qcow2_repair(image, n, figures, scratch, allowance, a)
+                    over!(qcow2_backed_repair, figures, scratch, allowance, x)
                 }
                 Call::WriteSteps { offset, len, room } => {
-                    ffi::qcow2_write_steps(image, n, offset, len, rows, room, a)
+                    over!(qcow2_backed_write_steps, offset, len, rows, room, x)
                 }
                 Call::DiscardSteps { cluster, room } => {
-                    ffi::qcow2_discard_steps(image, n, cluster, rows, room, a)
+                    over!(qcow2_backed_discard_steps, cluster, rows, room, x)
                 }
                 Call::RepairSteps { scratch, room } => {
-                    ffi::qcow2_repair_steps(image, n, figures, scratch, rows, room, a)
+                    over!(qcow2_backed_repair_steps, figures, scratch, rows, room, x)
                 }
-                Call::Check { scratch } => {
-                    assert!(scratch <= self.scratch.len());
-                    ffi::qcow2_check(image, n, figures, scratch, a, b, c)
-                }
+                Call::Check { scratch } => over!(qcow2_backed_check, figures, scratch, x, y, z),
             }
         };
-        let numbers = match call {
-            Call::Read(_) | Call::ReadSnapshot(..) => vec![],
-            Call::Geometry | Call::Check { .. } => vec![*a, *b, *c],
-            _ => vec![*a],
-        };
-        (code, numbers)
+        (code, [*x, *y, *z][..call.numbers()].to_vec())
+    }
+}
+
+impl Call {
+    /// How many numbers it stores.
+    fn numbers(self) -> usize {
+        match self {
+            Call::Read(_) | Call::ReadSnapshot(..) => 0,
+            Call::BackingName => 2,
+            Call::Geometry | Call::Check { .. } => 3,
+            _ => 1,
+        }
+    }
+
+    /// The rows that it is lent.
+    fn room(self) -> usize {
+        match self {
+            Call::Runs { room, .. }
+            | Call::WriteSteps { room, .. }
+            | Call::DiscardSteps { room, .. }
+            | Call::RepairSteps { room, .. } => room,
+            _ => 0,
+        }
+    }
+
+    /// The scratch that it is lent.
+    fn scratch(self) -> usize {
+        match self {
+            Call::Repair { scratch, .. }
+            | Call::RepairSteps { scratch, .. }
+            | Call::Check { scratch } => scratch,
+            _ => 0,
+        }
     }
 }
 
@@ -389,7 +421,72 @@ fn refused_by_all(made: &Made, number: u32) {
     ] {
         refused(made, call, number);
     }
+    let ((image, n), (under, b)) = (lend(&made.bytes), lend(&made.backing));
     // SAFETY: see the head of lib.rs.
-    let bytes = unsafe { ffi::qcow2_lookup(made.bytes.as_ptr(), made.bytes.len(), OFFSET) };
-    assert_eq!(bytes, 0);
+    assert_eq!(unsafe { ffi::qcow2_backed_lookup(image, n, under, b, OFFSET) }, 0);
+}
+
+/// The sound image over a backing file that ends inside the guest cluster after the
+/// zeros.
+fn backed() -> Made {
+    let mut made = sound();
+    made.set_name(104, 7);
+    made.backing = Rng::new(8).bytes(AFTER_ZEROS as usize + 208);
+    made
+}
+
+#[test]
+fn name() {
+    assert_eq!(answer(&sound(), Call::BackingName), (0, vec![0, 0]));
+    let mut made = backed();
+    for (at, length) in [(104, 7), (1, 511), (511, 1), (505, 7)] {
+        made.set_name(at, length);
+        for backing in [made.backing.clone(), Vec::new()] {
+            let made = Made { backing, ..made.clone() };
+            assert_eq!(answer(&made, Call::BackingName), (0, vec![at, length.into()]));
+        }
+    }
+    for (at, length) in [(104, 0), (512, 1), (506, 7), (1, 512), (1, u32::MAX), (ALL, 2)] {
+        made.set_name(at, length);
+        refused(&made, Call::BackingName, 19);
+        refused_by_all(&made, 19);
+    }
+    made.set_name(0, u32::MAX);
+    assert_eq!(answer(&made, Call::BackingName), (0, vec![0, 0]));
+    refused_by_all(&Made { backing: Vec::new(), ..backed() }, 19);
+}
+
+/// The bytes that are read, with all else as it was.
+fn read_bytes(made: &Made, offset: u64) -> [u8; 3] {
+    let (mut lent, mut wanted) = (Lent::of(made), Lent::of(made));
+    assert_eq!(lent.call(Call::Read(offset)), (0, vec![]));
+    wanted.bytes = lent.bytes;
+    assert!(lent == wanted, "a read at {offset} changed what it was lent");
+    lent.bytes
+}
+
+#[test]
+fn over_a_backing_file() {
+    let made = backed();
+    let (under, end) = (&made.backing, made.backing.len());
+    assert_eq!(answer(&made, Call::Translate(AFTER_ZEROS)), (answers::ABSENT, vec![0]));
+    assert_eq!(read_bytes(&made, 0), under[..3]);
+    assert_eq!(read_bytes(&made, AFTER_ZEROS - 2), [0, 0, under[AFTER_ZEROS as usize]]);
+    assert_eq!(read_bytes(&made, end as u64 - 2), [under[end - 2], under[end - 1], 0]);
+    let mut lent = Lent::of(&made);
+    let new = Call::Write { offset: AFTER_ZEROS + 1, allowance: ALL };
+    assert_eq!(lent.call(new), (0, vec![514]));
+    let mut wanted = under[AFTER_ZEROS as usize..].to_vec();
+    wanted.resize(512, 0);
+    wanted[1..4].copy_from_slice(b"abc");
+    assert_eq!(lent.image[6 * 512..7 * 512], wanted);
+    assert!(lent.backing == *under);
+    for (cluster, units) in [(GUEST, 2), (GUEST + 1, 0), (GUEST + 2, 1)] {
+        let mut lent = Lent::of(&made);
+        assert_eq!(lent.call(Call::Discard { cluster, allowance: ALL }), (0, vec![units]));
+        let at = 4 * 512 + 8 * (cluster - GUEST) as usize;
+        assert_eq!(lent.image[at..at + 8], 1u64.to_be_bytes());
+    }
+    refused(&made, Call::Discard { cluster: 0, allowance: ALL }, 20);
+    refused(&made, Call::DiscardSteps { cluster: 0, room: ROWS }, 20);
 }

@@ -6,7 +6,8 @@ use std::thread;
 
 use answers::Outcome;
 use made::full::{self, Layout, Shape};
-use made::image::Kind;
+use made::image::{Kind, Made};
+use qcow2_core::Core;
 
 const STACK: usize = 64 << 10;
 const ALL: u64 = u64::MAX;
@@ -24,32 +25,42 @@ fn on_little_stack(work: impl FnOnce() + Send + 'static) {
 fn each_call_needs_little_stack() {
     for bits in [9, 16, 21] {
         let (made, guest) = full::last_two_free(Shape::of(bits));
-        let cluster = made.cluster();
-        on_little_stack(move || {
-            let mut image = made.bytes;
-            let mut scratch = vec![0; 2 * image.len() / cluster];
-            let mut out = vec![0; 5 << 20];
-            let data = vec![7; cluster];
-            let mut rows = vec![0; 4 * (image.len() / cluster + 1)];
-            let steps = qcow2_core::write_steps(&image, guest << bits, 1, &mut rows);
-            assert_eq!(steps, Ok(6));
-            assert_eq!(qcow2_core::repair_steps(&image, &mut scratch, &mut rows), Ok(0));
-            let written = qcow2_core::write(&mut image, guest * cluster as u64, &data, ALL);
-            assert_eq!(written, Outcome::Finished(2 * cluster as u64 + 4));
-            let again = qcow2_core::write(&mut image, guest * cluster as u64, &data, ALL);
-            assert_eq!(again, Outcome::Finished(cluster as u64));
-            assert_eq!(qcow2_core::read(&image, 0, &mut out), Ok(()));
-            assert_eq!(
-                qcow2_core::read(&image, guest * cluster as u64, &mut out[..cluster]),
-                Ok(())
-            );
-            assert!(out[..cluster] == data);
-            assert_eq!(qcow2_core::discard_steps(&image, guest, &mut rows), Ok(2));
-            assert_eq!(qcow2_core::discard(&mut image, guest, ALL), Outcome::Finished(2));
-            qcow2_core::repair(&mut image, &mut scratch, ALL);
-            qcow2_core::check(&image, &mut scratch);
-        });
+        on_little_stack(move || each_call(made, guest));
+        let made = over_a_backing_file(bits, 8);
+        on_little_stack(move || each_call(made, 7));
     }
+}
+
+/// An empty image of so many guest clusters.
+fn over_a_backing_file(bits: u32, guest: usize) -> Made {
+    let mut made = full::empty(bits, guest);
+    made.set_name(104, 1);
+    made.backing = vec![5; made.size as usize];
+    made
+}
+
+/// A guest cluster without an L2 table is written, read and discarded.
+fn each_call(made: Made, guest: u64) {
+    let (mut image, cluster) = (made.bytes.clone(), made.cluster());
+    let (side, offset) = (made.over(&Core), guest << made.cluster_bits);
+    let (mut scratch, mut out) =
+        (vec![0; made.scratch()], vec![0; made.size.min(5 << 20) as usize]);
+    let data = vec![7; cluster - 1];
+    let mut rows = vec![0; 4 * (made.clusters() + 1)];
+    assert_eq!(side.write_steps(&image, offset, 1, &mut rows), Ok(6));
+    assert_eq!(side.repair_steps(&image, &mut scratch, &mut rows), Ok(0));
+    let written = side.write(&mut image, offset, &data, ALL);
+    assert_eq!(written, Outcome::Finished(2 * cluster as u64 + 4));
+    let again = side.write(&mut image, offset, &data, ALL);
+    assert_eq!(again, Outcome::Finished(cluster as u64 - 1));
+    assert_eq!(side.read(&image, 0, &mut out), Ok(()));
+    assert_eq!(side.read(&image, offset, &mut out[..cluster]), Ok(()));
+    assert!(out[..cluster - 1] == data);
+    assert_eq!(out[cluster - 1], made.backing.last().copied().unwrap_or(0));
+    assert_eq!(side.discard_steps(&image, guest, &mut rows), Ok(2));
+    assert_eq!(side.discard(&mut image, guest, ALL), Outcome::Finished(2));
+    side.repair(&mut image, &mut scratch, ALL);
+    side.check(&image, &mut scratch);
 }
 
 #[test]
@@ -57,6 +68,16 @@ fn a_long_read_of_one_cluster_after_another() {
     let made = full::full_of(Shape::of(16), Kind::Data, Layout::Scattered);
     on_little_stack(move || {
         let mut out = vec![0; 32 << 20];
-        assert_eq!(qcow2_core::read(&made.bytes, 1, &mut out), Ok(()));
+        assert_eq!(made.over(&Core).read(&made.bytes, 1, &mut out), Ok(()));
+    });
+}
+
+#[test]
+fn a_long_read_of_a_backing_file() {
+    let made = over_a_backing_file(16, 1024);
+    on_little_stack(move || {
+        let mut out = vec![0; 32 << 20];
+        assert_eq!(made.over(&Core).read(&made.bytes, 1, &mut out), Ok(()));
+        assert!(out == made.backing[..out.len()]);
     });
 }

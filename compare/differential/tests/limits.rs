@@ -2,17 +2,17 @@
 //! the greatest length.
 #![forbid(unsafe_code)]
 
-use answers::{Calls, Found, Outcome, Verdict};
+use answers::{Found, Outcome, Over, Verdict};
 use made::breaks::{break_header, ORDER};
 use made::drive::usable;
 use made::full::{self, Layout, Shape};
 use made::image::{Kind, Made};
 use made::longest;
 use made::pair::Pair;
-use made::real;
+use made::real::{self, Real};
 use made::requests::{Request, Requests};
 use made::rng::Rng;
-use plain::Plain;
+use plain::{Plain, ALONE};
 use qcow2_core::Core;
 
 const ALL: u64 = u64::MAX;
@@ -30,7 +30,7 @@ fn breaks() {
                     break_header(&mut made, later, &mut rng);
                 }
                 break_header(&mut made, number, &mut rng);
-                pair.load(&made.bytes);
+                pair.load(&made);
                 let mut requests = Requests::new(&made);
                 (0..8).for_each(|_| _ = pair.run(&requests.any(&mut rng)));
             }
@@ -42,7 +42,7 @@ fn breaks() {
 fn edges() {
     let mut pair = Pair::new(&Core, &Plain);
     made::edges::each(|image, _| {
-        pair.load(image);
+        pair.load_bytes(image, &[]);
         pair.run(&Request::Check { scratch: image.len() / 256 });
         pair.run(&Request::Translate { offset: 0 });
         pair.run(&Request::Translate { offset: (1 << 40) - 1 });
@@ -56,7 +56,7 @@ fn edges() {
 fn snapshot_edges() {
     let mut pair = Pair::new(&Core, &Plain);
     made::snapshot_edges::each(|image, _| {
-        pair.load(image);
+        pair.load_bytes(image, &[]);
         pair.run(&Request::Check { scratch: image.len() / 256 });
         for (snapshot, offset) in [(0, 0), (0, 1 << 15), (0, 1 << 40), (63, 0), (64, 0)] {
             pair.run(&Request::ReadSnapshot { snapshot, offset, len: 1 });
@@ -66,11 +66,10 @@ fn snapshot_edges() {
 }
 
 /// A made image's fields, taken from a real one of clusters of 512 bytes.
-fn as_made(bytes: &[u8], size: u64) -> Made {
-    let mut made = made::plan::bench_image();
-    made.bytes = bytes.to_vec();
-    made.size = size;
-    made
+fn as_made(real: &Real) -> Made {
+    let size = real.guest.as_ref().map_or(65_536, |guest| guest.size());
+    let (bytes, backing) = (real.bytes.clone(), real.backing.clone());
+    Made { bytes, size, backing, ..made::plan::bench_image() }
 }
 
 #[test]
@@ -78,12 +77,11 @@ fn real_images() {
     let mut rng = Rng::from_env("real images", 62);
     let mut pair = Pair::new(&Core, &Plain);
     for real in real::all() {
-        let size = real.guest.as_ref().map_or(65_536, |guest| guest.size());
-        let made = as_made(&real.bytes, size);
+        let made = as_made(&real);
         let mut requests = Requests::new(&made);
         for k in 0..2000 {
             if k % 50 == 0 {
-                pair.load(&made.bytes);
+                pair.load(&made);
             }
             pair.run(&requests.any(&mut rng));
         }
@@ -101,7 +99,7 @@ fn full_images() {
         let shape = Shape { order, ..Shape::of(cluster_bits) };
         let made = full::full_of(shape, Kind::Data, Layout::Rising);
         let (cluster, scratch) = (made.cluster(), made.scratch());
-        pair.load(&made.bytes);
+        pair.load(&made);
         pair.run(&Request::Check { scratch });
         pair.run(&Request::Check { scratch: scratch - 1 });
         pair.run(&Request::Read { offset: 0, len: made.size as usize });
@@ -120,7 +118,7 @@ fn last_cluster_free() {
     for (cluster_bits, order) in [(9, 4), (9, 2), (9, 6), (16, 0), (21, 5)] {
         let shape = Shape { order, ..Shape::of(cluster_bits) };
         let (made, guest) = full::nearly_full(shape, 1);
-        pair.load(&made.bytes);
+        pair.load(&made);
         let offset = guest << cluster_bits;
         for allowance in [0, 1, ALL] {
             pair.run(&write(offset, 3, allowance));
@@ -131,10 +129,10 @@ fn last_cluster_free() {
 }
 
 /// The answer of both sides, each on an image of its own.
-fn both<A: PartialEq>(images: &mut [Made; 2], call: impl Fn(&dyn Calls, &mut [u8]) -> A) -> A {
+fn both<A: PartialEq>(images: &mut [Made; 2], call: impl Fn(Over, &mut [u8]) -> A) -> A {
     let [core, plain] = images;
-    let answer = call(&Core, &mut core.bytes);
-    assert!(answer == call(&Plain, &mut plain.bytes), "the sides answer differently");
+    let answer = call(Over::none(&Core), &mut core.bytes);
+    assert!(answer == call(ALONE, &mut plain.bytes), "the sides answer differently");
     answer
 }
 
@@ -170,7 +168,7 @@ fn longest_images() {
         let images = &mut [(); 2].map(|()| longest::last_two_free(cluster_bits, order));
         let (scratch, size) = (images[0].scratch(), images[0].size);
         let (offset, guest) = (size - 2, (size - 1) >> cluster_bits);
-        let write = |side: &dyn Calls, image: &mut [u8]| side.write(image, offset, b"ab", ALL);
+        let write = |side: Over, image: &mut [u8]| side.write(image, offset, b"ab", ALL);
         let (verdict, found) = look(images, offset);
         assert!(matches!(verdict, Verdict::Leaks(500..)), "{verdict:?}");
         assert_eq!(found, Found::Absent);

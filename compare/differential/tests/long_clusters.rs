@@ -17,7 +17,7 @@ fn requests() {
             let plan = Plan::random_with(cluster_bits, &mut rng);
             let made = match any {
                 true => drive::any_image_of(plan, &mut rng),
-                false => drive::usable_of(plan, &mut rng),
+                false => drive::usable_over(plan, &mut rng),
             };
             drive::compare_on(&mut pair, &made, &mut rng);
         }
@@ -30,7 +30,7 @@ fn cuts() {
     let mut pair = Pair::new(&Core, &Plain);
     for cluster_bits in LONG_BITS..=MAX_BITS {
         let plan = Plan::random_with(cluster_bits, &mut rng);
-        let made = drive::usable_of(plan, &mut rng);
+        let made = drive::usable_over(plan, &mut rng);
         drive::compare_cuts_on(&mut pair, &made, &mut rng);
     }
 }
@@ -41,7 +41,7 @@ fn series() {
     let mut ended = [0; 3];
     for cluster_bits in LONG_BITS..=MAX_BITS {
         let plan = Plan::random_with(cluster_bits, &mut rng);
-        let made = drive::usable_of(plan, &mut rng);
+        let made = drive::usable_over(plan, &mut rng);
         drive::series_on(&Core, &made, &mut rng, &mut ended);
     }
     println!("finished, stopped, refused: {ended:?}");

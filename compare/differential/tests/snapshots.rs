@@ -1,6 +1,7 @@
 //! Images with snapshots, in the core and in the plain implementation.
 #![forbid(unsafe_code)]
 
+use made::drive;
 use made::hostile;
 use made::pair::Pair;
 use made::requests::Request;
@@ -13,7 +14,7 @@ use qcow2_core::Core;
 fn requests() {
     let mut rng = Rng::from_env("requests beside snapshots", 101);
     let mut pair = Pair::new(&Core, &Plain);
-    snapshot_drive::compare(&mut pair, &mut rng, setting("CALLS", 60_000));
+    drive::compare_such(&mut pair, &mut rng, setting("CALLS", 60_000), snapshot_drive::any_over);
     println!("{:#?}", pair.tally);
     let missing = WANTED.iter().find(|kind| !pair.tally.contains_key(**kind));
     assert!(pair.calls < 60_000 || missing.is_none(), "{missing:?}");
@@ -23,7 +24,8 @@ fn requests() {
 #[test]
 fn series() {
     let mut rng = Rng::from_env("series beside snapshots", 102);
-    let ended = snapshot_drive::series(&Core, &mut rng, setting("CALLS", 20_000));
+    let ended =
+        drive::series_such(&Core, &mut rng, setting("CALLS", 20_000), snapshot_drive::usable_over);
     println!("finished, stopped, refused: {ended:?}");
     assert!(ended.iter().all(|&count| count > 0));
 }
@@ -34,7 +36,7 @@ fn hostile_images() {
     let mut pair = Pair::new(&Core, &Plain);
     for (cluster_bits, l1_size, snapshots) in [(9, 2000, 64), (9, 65_536, 1), (10, 600, 64)] {
         let made = hostile::one_table(cluster_bits, l1_size, snapshots);
-        pair.load(&made.bytes);
+        pair.load(&made);
         pair.run(&Request::Check { scratch: made.scratch() });
         pair.run(&Request::Repair { scratch: made.scratch(), allowance: u64::MAX });
         pair.run(&Request::Read { offset: 0, len: 70_000 });

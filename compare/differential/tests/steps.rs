@@ -6,7 +6,7 @@ use made::drive;
 use made::pair::Pair;
 use made::plan::{Plan, LONG_BITS, MAX_BITS, MAX_ORDER};
 use made::rng::{setting, Rng};
-use made::steps::{follow, follow_on, Met};
+use made::steps::{any_usable, follow, follow_on, Met};
 use made::widths;
 use plain::Plain;
 use qcow2_core::Core;
@@ -50,7 +50,7 @@ fn rows_of_each_width() {
 #[test]
 fn lost_sectors() {
     let mut rng = Rng::from_env("lost sectors", 123);
-    all_met(&follow(&Core, &mut rng, setting("CALLS", 6000)));
+    all_met(&follow(&Core, &mut rng, setting("CALLS", 6000), any_usable));
 }
 
 #[test]
@@ -60,7 +60,7 @@ fn lost_sectors_at_each_width() {
         let mut met = Met::default();
         while met.calls < setting("CALLS", 7000) / 7 {
             let plan = Plan { version: 3, order, ..Plan::random_with(9, &mut rng) };
-            let made = drive::usable_of(plan, &mut rng);
+            let made = drive::usable_over(plan, &mut rng);
             follow_on(&Core, &made, &mut rng, &mut met);
         }
         all_met(&met);
@@ -73,7 +73,7 @@ fn lost_sectors_of_long_clusters() {
     let mut met = Met::default();
     for cluster_bits in LONG_BITS..=MAX_BITS {
         let plan = Plan::random_with(cluster_bits, &mut rng);
-        let made = drive::usable_of(plan, &mut rng);
+        let made = drive::usable_over(plan, &mut rng);
         follow_on(&Core, &made, &mut rng, &mut met);
     }
     println!("{met:?}");

@@ -1,7 +1,7 @@
 //! The paper's bench image and every line about it, for one implementation and
 //! counts of each width: no figure depends on that.
 
-use answers::{Calls, Found, Outcome, Verdict};
+use answers::{Calls, Found, Outcome, Over, Verdict};
 
 use crate::image::Made;
 use crate::plan::{bench_image_of, MAX_ORDER};
@@ -10,7 +10,8 @@ use crate::report::report;
 const ALL: u64 = u64::MAX;
 
 /// Runs every line.
-pub fn all(side: &dyn Calls) {
+pub fn all(calls: &dyn Calls) {
+    let side = Over::none(calls);
     for order in 0..=MAX_ORDER {
         small_program(side, order);
         first_write(side, order);
@@ -32,7 +33,7 @@ fn made(bytes: Vec<u8>, order: u32) -> Made {
 }
 
 /// The bench image after the write of 5 bytes at 33,285, cut at `allowance`.
-fn written(side: &dyn Calls, order: u32, allowance: u64) -> (Vec<u8>, Outcome) {
+fn written(side: Over, order: u32, allowance: u64) -> (Vec<u8>, Outcome) {
     let mut image = image(order);
     let outcome = side.write(&mut image, 33_285, b"hello", allowance);
     (image, outcome)
@@ -42,7 +43,7 @@ fn entry(image: &[u8], at: usize) -> u64 {
     u64::from_be_bytes(image[at..at + 8].try_into().unwrap())
 }
 
-fn verdict(side: &dyn Calls, image: &[u8]) -> Verdict {
+fn verdict(side: Over, image: &[u8]) -> Verdict {
     side.check(image, &mut [0; 32])
 }
 
@@ -51,13 +52,13 @@ fn free(image: &[u8], order: u32) -> usize {
     (0..16).filter(|&cluster| made.count(cluster) == 0).count()
 }
 
-fn small_program(side: &dyn Calls, order: u32) {
+fn small_program(side: Over, order: u32) {
     let text = "image\t3\t512\t16\t65536\t2\nclusters\t4\t12\t0\nverdict\tsound\n";
     assert_eq!(report(side, &image(order)), text);
     assert_eq!(report(side, &[0; 65_537]), "refused\tlong\n");
 }
 
-fn first_write(side: &dyn Calls, order: u32) {
+fn first_write(side: Over, order: u32) {
     let (image, outcome) = written(side, order, 1028);
     assert_eq!(outcome, Outcome::Finished(1028));
     assert_eq!(entry(&image, 1544), 0x8000_0000_0000_0800);
@@ -69,7 +70,7 @@ fn first_write(side: &dyn Calls, order: u32) {
     assert!(rest.iter().all(|&byte| byte == 0));
 }
 
-fn first_write_cut(side: &dyn Calls, order: u32) {
+fn first_write_cut(side: Over, order: u32) {
     assert_eq!(verdict(side, &written(side, order, 0).0), Verdict::Sound);
     for allowance in [1, 513] {
         assert_eq!(verdict(side, &written(side, order, allowance).0), Verdict::Leaks(1));
@@ -85,7 +86,7 @@ fn first_write_cut(side: &dyn Calls, order: u32) {
     assert_eq!(verdict(side, &image), Verdict::Sound);
 }
 
-fn after_the_first_write(side: &dyn Calls, order: u32) {
+fn after_the_first_write(side: Over, order: u32) {
     let (mut image, _) = written(side, order, ALL);
     assert_eq!(side.write(&mut image, 33_280, b"abc", ALL), Outcome::Finished(3));
     assert_eq!(side.write(&mut image, 32_768, b"x", ALL), Outcome::Finished(514));
@@ -99,7 +100,7 @@ fn after_the_first_write(side: &dyn Calls, order: u32) {
     assert_eq!(free(&image, order), 11);
 }
 
-fn one_free_cluster(side: &dyn Calls, order: u32) {
+fn one_free_cluster(side: Over, order: u32) {
     let (mut image, _) = written(side, order, ALL);
     let mut full = made(image, order);
     (6..=14).for_each(|cluster| full.set_count(cluster, 1));
@@ -108,7 +109,7 @@ fn one_free_cluster(side: &dyn Calls, order: u32) {
     assert_eq!(side.write(&mut image, 32_768, b"x", ALL), Outcome::Finished(514));
 }
 
-fn ranges(side: &dyn Calls, order: u32) {
+fn ranges(side: Over, order: u32) {
     let mut image = image(order);
     assert_eq!(side.read(&image, 65_536, &mut []), Ok(()));
     assert_eq!(side.read(&image, 65_536, &mut [0]), Err(11));
@@ -124,7 +125,7 @@ fn ranges(side: &dyn Calls, order: u32) {
     }
 }
 
-fn headers(side: &dyn Calls, order: u32) {
+fn headers(side: Over, order: u32) {
     let refused = |change: &dyn Fn(&mut Vec<u8>)| {
         let mut image = image(order);
         change(&mut image);

@@ -1,12 +1,13 @@
 //! Headers broken at each of their numbers.
 
+use crate::backing::break_19;
 use crate::image::Made;
 use crate::plan::{Plan, SECTOR};
 use crate::rng::Rng;
 use crate::snapshots::{FIXED, MAX_SNAPSHOTS};
 
 /// The header's numbers in the order in which they are tried.
-pub const ORDER: [u32; 12] = [1, 2, 3, 4, 5, 6, 7, 8, 18, 9, 10, 21];
+pub const ORDER: [u32; 13] = [1, 2, 3, 4, 5, 6, 7, 8, 18, 9, 10, 19, 21];
 
 /// Breaks the image so that `number` applies; false where this image has no
 /// way to do it. Numbers tried before it are left alone.
@@ -35,6 +36,7 @@ pub fn break_header(made: &mut Made, number: u32, rng: &mut Rng) -> bool {
         18 => return break_18(made, rng),
         9 => return break_9(made, rng),
         10 => return break_10(made, rng),
+        19 => break_19(made, rng),
         21 => break_21(made, rng),
         _ => unreachable!("a number of the header"),
     }
@@ -42,14 +44,13 @@ pub fn break_header(made: &mut Made, number: u32, rng: &mut Rng) -> bool {
 }
 
 fn break_6(made: &mut Made, rng: &mut Rng) {
-    match rng.below(if made.version == 3 { 5 } else { 3 }) {
-        0 => made.put64(8, 1 << rng.below(64)),
-        1 => made.put32(32, 1 << rng.below(32)),
-        2 => {
+    match rng.below(if made.version == 3 { 4 } else { 2 }) {
+        0 => made.put32(32, 1 << rng.below(32)),
+        1 => {
             let count = rng.pick(&[65, 66, 1 << 8, 1 << 16, 1 << 31, u32::MAX]);
             made.put32(60, count);
         }
-        3 => {
+        2 => {
             let order = rng.pick(&[7, 8, 16, 32, 0x0400_0000, 1 << 31, u32::MAX]);
             made.put32(96, order);
         }

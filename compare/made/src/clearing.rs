@@ -2,8 +2,9 @@
 //! without, for one implementation; and damaged images where the bits lie under
 //! something else, for two.
 
-use answers::{Calls, Outcome};
+use answers::{Calls, Outcome, Over};
 
+use crate::backing;
 use crate::damage::l1_on_header;
 use crate::drive::with_allowance;
 use crate::image::{Kind, Made, AUTOCLEAR, USED};
@@ -42,7 +43,7 @@ fn image(version: u32) -> Made {
 }
 
 /// Sound, leaking, with no room, and with bad entries on the ways to guest
-/// clusters 4 to 6.
+/// clusters 4 to 6; then the same over a backing file.
 fn variants(version: u32) -> Vec<Made> {
     let sound = image(version);
     let mut leaking = sound.clone();
@@ -55,7 +56,12 @@ fn variants(version: u32) -> Vec<Made> {
     for (l2_index, entry) in [(4, 2), (5, 1 << 62), (6, USED | 15 << 9)] {
         bad.put64(table + 8 * l2_index, entry);
     }
-    vec![sound, leaking, full, bad]
+    let mut variants = vec![sound, leaking, full, bad];
+    variants.extend_from_within(..);
+    for made in &mut variants[4..] {
+        backing::add(made, &mut Rng::new(3));
+    }
+    variants
 }
 
 /// Requests with every kind of list, and refused ones.
@@ -69,11 +75,7 @@ fn requests() -> Vec<Request> {
 }
 
 /// One call on a copy of the image: the answer, the image and the scratch.
-pub(crate) fn call(
-    side: &dyn Calls,
-    image: &[u8],
-    request: &Request,
-) -> (Outcome, Vec<u8>, Vec<u8>) {
+pub(crate) fn call(side: Over, image: &[u8], request: &Request) -> (Outcome, Vec<u8>, Vec<u8>) {
     let (mut image, mut scratch) = (image.to_vec(), Vec::new());
     let outcome = match *request {
         Request::Write { offset, ref data, allowance } => {
@@ -98,6 +100,7 @@ pub fn figures(side: &dyn Calls) -> [u64; 2] {
         for (request, bits) in requests().iter().flat_map(|one| BITS.map(|bits| (one, bits))) {
             let mut set = made.clone();
             set.put64(AUTOCLEAR, bits);
+            let side = made.over(side);
             let (outcome, _, scratch) = call(side, &made.bytes, request);
             let with_bits = call(side, &set.bytes, request);
             assert_eq!(with_bits.2, scratch, "{request:?}");
@@ -118,7 +121,7 @@ pub fn figures(side: &dyn Calls) -> [u64; 2] {
     seen
 }
 
-fn each_cut(side: &dyn Calls, [zero, set]: [&[u8]; 2], request: &Request, units: u64) {
+fn each_cut(side: Over, [zero, set]: [&[u8]; 2], request: &Request, units: u64) {
     let (outcome, image, _) = call(side, set, &with_allowance(request, 0));
     assert!(outcome == Outcome::Stopped(0) && image == set, "{request:?}");
     for cut in 0..=units {
@@ -140,6 +143,7 @@ pub fn version_2(side: &dyn Calls) {
         for (request, bits) in requests().iter().flat_map(|one| BITS.map(|bits| (one, bits))) {
             let mut set = made.clone();
             set.put64(AUTOCLEAR, bits);
+            let side = made.over(side);
             for allowance in [0, 1, 2, ALL] {
                 let request = with_allowance(request, allowance);
                 let (outcome, image, scratch) = call(side, &set.bytes, &request);
@@ -189,13 +193,13 @@ fn overlapping() -> Vec<(Made, Vec<Request>)> {
 pub fn compare_overlapping(pair: &mut Pair) {
     for (made, requests) in overlapping() {
         for request in requests {
-            pair.load(&made.bytes);
+            pair.load(&made);
             let whole = pair.run(&request);
             let Some(Outcome::Finished(units)) = whole else {
                 panic!("{whole:?}: {request:?}");
             };
             for cut in 0..=units + 1 {
-                pair.load(&made.bytes);
+                pair.load(&made);
                 pair.run(&with_allowance(&request, cut));
                 pair.run(&request);
             }

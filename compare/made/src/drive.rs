@@ -3,6 +3,7 @@
 use answers::{Calls, Outcome};
 use plain::plain_disk::{Call, Series};
 
+use crate::backing;
 use crate::breaks::{break_header, ORDER};
 use crate::damage;
 use crate::image::Made;
@@ -13,10 +14,11 @@ use crate::rng::Rng;
 use crate::snapshot_drive;
 use crate::snapshots::{self, MAX_SNAPSHOTS};
 
-/// A sound image with tables and entries, at times with snapshots.
+/// A sound image with tables and entries, at times with snapshots and a backing
+/// file.
 pub fn sound(rng: &mut Rng) -> Made {
     let plan = Plan::random(rng);
-    sound_of(plan, rng)
+    backing::maybe(sound_of(plan, rng), rng)
 }
 
 fn sound_of(plan: Plan, rng: &mut Rng) -> Made {
@@ -36,12 +38,17 @@ pub fn without_snapshots(plan: Plan, rng: &mut Rng) -> Made {
     made
 }
 
-/// Sound or leaking, at times with no or little room.
+/// Sound or leaking, at times with no or little room, at times over a backing file.
 pub fn usable(rng: &mut Rng) -> Made {
     let plan = Plan::random(rng);
-    usable_of(plan, rng)
+    usable_over(plan, rng)
 }
 
+pub fn usable_over(plan: Plan, rng: &mut Rng) -> Made {
+    backing::maybe(usable_of(plan, rng), rng)
+}
+
+/// The same with no backing file.
 pub fn usable_of(plan: Plan, rng: &mut Rng) -> Made {
     let mut made = sound_of(plan, rng);
     if rng.once_in(3) {
@@ -60,7 +67,7 @@ pub fn any_image(rng: &mut Rng) -> Made {
 }
 
 pub fn any_image_of(plan: Plan, rng: &mut Rng) -> Made {
-    let mut made = usable_of(plan, rng);
+    let mut made = usable_over(plan, rng);
     match rng.below(16) {
         0..=4 => {}
         5 => {
@@ -93,14 +100,27 @@ pub fn compare(pair: &mut Pair, rng: &mut Rng, calls: u64) {
     }
 }
 
+/// Feeds both sides the check, requests and cut requests for such images.
+pub fn compare_such(pair: &mut Pair, rng: &mut Rng, calls: u64, such: fn(&mut Rng) -> Made) {
+    while pair.calls < calls {
+        let made = such(rng);
+        pair.load(&made);
+        pair.run(&Request::Check { scratch: made.scratch() });
+        compare_on(pair, &made, rng);
+        if rng.once_in(4) {
+            compare_cuts_on(pair, &made, rng);
+        }
+    }
+}
+
 /// Some requests for one image.
 pub fn compare_on(pair: &mut Pair, made: &Made, rng: &mut Rng) {
-    pair.load(&made.bytes);
+    pair.load(made);
     let mut requests = Requests::new(made);
     for _ in 0..8 + rng.below(24) {
         pair.run(&requests.any(rng));
         if rng.once_in(32) {
-            pair.load(&made.bytes);
+            pair.load(made);
         }
     }
 }
@@ -109,8 +129,8 @@ pub fn compare_on(pair: &mut Pair, made: &Made, rng: &mut Rng) {
 /// until `calls` were made; every third image has snapshots.
 pub fn compare_steps(pair: &mut Pair, rng: &mut Rng, calls: u64) {
     while pair.calls < calls {
-        let made = if rng.once_in(3) { snapshot_drive::any(rng) } else { any_image(rng) };
-        pair.load(&made.bytes);
+        let made = if rng.once_in(3) { snapshot_drive::any_over(rng) } else { any_image(rng) };
+        pair.load(&made);
         pair.run(&Request::Geometry);
         let mut requests = Requests::new(&made);
         for _ in 0..6 {
@@ -164,13 +184,13 @@ pub fn compare_cuts_on(pair: &mut Pair, made: &Made, rng: &mut Rng) {
     let mut requests = Requests::new(made);
     for _ in 0..4 {
         let request = requests.storing(rng);
-        pair.load(&made.bytes);
+        pair.load(made);
         let whole = pair.run(&with_allowance(&request, u64::MAX));
         let Some(Outcome::Finished(units)) = whole else {
             continue;
         };
         for cut in cuts(units, made.cluster() as u64, rng) {
-            pair.load(&made.bytes);
+            pair.load(made);
             pair.run(&with_allowance(&request, cut));
         }
     }
@@ -202,11 +222,28 @@ pub fn series(side: &dyn Calls, rng: &mut Rng, calls: u64) -> [u64; 3] {
     ended
 }
 
+/// The same whole and cut, on such images; how many were finished, stopped and
+/// refused in the whole ones.
+pub fn series_such(
+    side: &dyn Calls,
+    rng: &mut Rng,
+    calls: u64,
+    such: fn(&mut Rng) -> Made,
+) -> [u64; 3] {
+    let (mut ended, mut cut) = ([0; 3], 0);
+    while ended.iter().sum::<u64>() + cut < calls {
+        let made = such(rng);
+        series_on(side, &made, rng, &mut ended);
+        cut += series_cuts_on(side, &made, rng);
+    }
+    ended
+}
+
 /// One series, from this image on.
 pub fn series_on(side: &dyn Calls, made: &Made, rng: &mut Rng, ended: &mut [u64; 3]) {
     let mut image = made.bytes.clone();
     let mut requests = Requests::new(made);
-    let mut series = Series::start(side, &image).expect("a usable image");
+    let mut series = Series::start(made.over(side), &image).expect("a usable image");
     for _ in 0..20 + rng.below(60) {
         let request = requests.storing(rng);
         match step(&mut series, &mut image, &request) {
@@ -230,7 +267,7 @@ pub fn series_cuts(side: &dyn Calls, rng: &mut Rng, calls: u64) {
 /// or a discard. Returns the calls made.
 pub fn series_cuts_on(side: &dyn Calls, made: &Made, rng: &mut Rng) -> u64 {
     let mut made_calls = 0;
-    let start = Series::start(side, &made.bytes).expect("a usable image");
+    let start = Series::start(made.over(side), &made.bytes).expect("a usable image");
     let mut requests = Requests::new(made);
     for _ in 0..3 {
         let request = requests.storing(rng);

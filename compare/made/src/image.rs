@@ -35,6 +35,8 @@ pub struct Made {
     /// The place of the snapshot table, if there are snapshots.
     pub snapshots_at: usize,
     pub snapshots: Vec<Snapshot>,
+    /// The bytes of a backing file that calls are lent, also where there is none.
+    pub backing: Vec<u8>,
 }
 
 /// What an L2 entry is made to say.

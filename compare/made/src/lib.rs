@@ -2,6 +2,9 @@
 //! one implementation or to two.
 #![forbid(unsafe_code)]
 
+pub mod backing;
+pub mod backing_drive;
+pub mod backing_edges;
 pub mod bench_suite;
 pub mod breaks;
 pub mod clearing;

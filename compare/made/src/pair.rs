@@ -3,10 +3,12 @@
 
 use std::collections::BTreeMap;
 
-use answers::{Calls, Outcome, STEP};
+use answers::{Calls, Outcome, Over, STEP};
 
+use crate::backing::NAME_AT;
 use crate::breaks::ORDER;
 use crate::guard::{with_numbers, Guarded};
+use crate::image::Made;
 use crate::requests::Request;
 
 pub struct Pair<'c> {
@@ -14,6 +16,8 @@ pub struct Pair<'c> {
     images: [Guarded; 2],
     /// The image before the call.
     before: Vec<u8>,
+    /// The bytes of a backing file that each side is lent, and as they have to stay.
+    backing: [(Guarded, Vec<u8>); 2],
     /// Calls made so far, of each side.
     pub calls: u64,
     /// How often each call gave each kind of answer.
@@ -26,16 +30,30 @@ impl<'c> Pair<'c> {
             sides: [left, right],
             images: [Guarded::default(), Guarded::default()],
             before: Vec::new(),
+            backing: [(); 2].map(|()| (Guarded::of(&[]), Vec::new())),
             calls: 0,
             tally: BTreeMap::new(),
         }
     }
 
-    /// Lends both sides a copy of `image` from now on.
-    pub fn load(&mut self, image: &[u8]) {
-        self.before.clear();
-        self.before.extend_from_slice(image);
+    /// Lends both sides a copy of the image from now on, and its backing file.
+    pub fn load(&mut self, made: &Made) {
+        self.load_bytes(&made.bytes, &made.backing);
+    }
+
+    /// Where an image names no backing file, the right side is lent none: what the
+    /// left side is lent must not matter.
+    pub fn load_bytes(&mut self, image: &[u8], backing: &[u8]) {
+        image.clone_into(&mut self.before);
         self.images.iter_mut().for_each(|side| side.set(image));
+        let is_backed = image.get(NAME_AT..NAME_AT + 8).is_some_and(|place| place != [0; 8]);
+        let bytes = [backing, if is_backed { backing } else { &[] }];
+        for ((lent, kept), bytes) in self.backing.iter_mut().zip(bytes) {
+            if kept != bytes {
+                bytes.clone_into(kept);
+                lent.set(bytes);
+            }
+        }
     }
 
     /// The image as the calls have left it.
@@ -63,6 +81,11 @@ impl<'c> Pair<'c> {
             }
             Request::Geometry => {
                 _ = self.answers(request, |side, image| side.geometry(image.lent()))
+            }
+            Request::BackingName => {
+                _ = self.answers(request, |side, image| {
+                    side.calls.backing_name(image.lent()).map(|name| part(image, name))
+                })
             }
             Request::Runs { offset, len, room } => self.runs(request, offset, len, room),
             Request::WriteSteps { room, .. } | Request::DiscardSteps { room, .. } => {
@@ -110,10 +133,16 @@ impl<'c> Pair<'c> {
     fn answers<A: PartialEq + std::fmt::Debug>(
         &mut self,
         request: &Request,
-        mut call: impl FnMut(&dyn Calls, &mut Guarded) -> A,
+        mut call: impl FnMut(Over, &mut Guarded) -> A,
     ) -> A {
-        let left = call(self.sides[0], &mut self.images[0]);
-        let right = call(self.sides[1], &mut self.images[1]);
+        let [left, right] = [0, 1].map(|k| {
+            let (backing, kept) = &self.backing[k];
+            let side = Over { calls: self.sides[k], backing: backing.lent() };
+            let answer = call(side, &mut self.images[k]);
+            let same = backing.intact() && backing.lent() == kept;
+            assert!(same, "the backing file's bytes changed: {request:?}");
+            answer
+        });
         let names = self.sides.map(|side| side.name());
         assert_eq!(left, right, "{names:?} answer differently: {request:?}");
         *self.tally.entry(kind(request, &left)).or_default() += 1;
@@ -124,7 +153,7 @@ impl<'c> Pair<'c> {
         &mut self,
         request: &Request,
         len: usize,
-        read: impl Fn(&dyn Calls, &[u8], &mut [u8]) -> Result<(), u32>,
+        read: impl Fn(Over, &[u8], &mut [u8]) -> Result<(), u32>,
     ) {
         let before = vec![0xC3; len];
         let out = &mut [Guarded::of(&before), Guarded::of(&before)];
@@ -167,7 +196,7 @@ impl<'c> Pair<'c> {
         &mut self,
         request: &Request,
         len: usize,
-        mut call: impl FnMut(&dyn Calls, &mut Guarded, &mut [u8]) -> A,
+        mut call: impl FnMut(Over, &mut Guarded, &mut [u8]) -> A,
     ) -> A {
         let before = vec![0x5A; len];
         let scratch = &mut [Guarded::of(&before), Guarded::of(&before)];
@@ -182,7 +211,7 @@ impl<'c> Pair<'c> {
 
 /// The steps that are asked for.
 pub fn list_steps(
-    side: &dyn Calls,
+    side: Over,
     image: &[u8],
     request: &Request,
     scratch: &mut [u8],
@@ -225,15 +254,16 @@ pub fn missing(tally: &BTreeMap<String, u64>) -> Vec<String> {
     let storing = ["Finished", "Stopped"].as_slice();
     for (call, answers, numbers) in [
         ("geometry", ["Ok"].as_slice(), [].as_slice()),
+        ("backing_name", &["Ok"], &[]),
         ("translate", &["Host", "Zeros", "Absent"], &[11, 12, 13]),
         ("read", &["Ok"], &[11, 12, 13]),
         ("read_snapshot", &["Ok"], &[11]),
         ("runs", &["Ok"], &[11]),
         ("write", storing, &[11, 12, 13, 14, 22]),
-        ("discard", storing, &[11, 12, 13, 16, 22]),
+        ("discard", storing, &[11, 12, 13, 16, 20, 22]),
         ("repair", storing, &[15, 17]),
         ("write_steps", &["Ok"], &[11, 12, 13, 14, 22]),
-        ("discard_steps", &["Ok"], &[11, 12, 13, 16, 22]),
+        ("discard_steps", &["Ok"], &[11, 12, 13, 16, 20, 22]),
         ("repair_steps", &["Ok"], &[15, 17]),
         ("check", &["Sound", "Leaks", "BadL1", "BadL2", "Shared", "Short"], &[15]),
     ] {

@@ -1,5 +1,6 @@
 //! Plans of valid images, and the images made from them.
 
+use crate::backing::NAME_AT;
 use crate::image::{Made, AUTOCLEAR};
 use crate::rng::Rng;
 
@@ -170,6 +171,7 @@ impl Plan {
             entries: Vec::new(),
             snapshots_at: 0,
             snapshots: Vec::new(),
+            backing: Vec::new(),
         };
         write_header(&mut made);
         made.put64(AUTOCLEAR, self.autoclear);
@@ -234,7 +236,7 @@ fn place_runs(rng: &mut Rng, clusters: usize, table: usize, l1: usize) -> (usize
 fn write_header(made: &mut Made) {
     made.bytes[..4].copy_from_slice(&[0x51, 0x46, 0x49, 0xFB]);
     made.put32(4, made.version);
-    made.put64(8, 0);
+    made.put64(NAME_AT, 0);
     made.put32(20, made.cluster_bits);
     made.put64(24, made.size);
     made.put32(32, 0);
@@ -291,6 +293,7 @@ pub fn bench_image_of(order: u32) -> Made {
         entries: Vec::new(),
         snapshots_at: 0,
         snapshots: Vec::new(),
+        backing: Vec::new(),
     };
     write_header(&mut made);
     write_tables(&mut made);

@@ -1,4 +1,5 @@
-//! Images with snapshots, made and read by qemu where it is installed.
+//! Images with snapshots or over a backing file, made and read by qemu where it is
+//! installed.
 
 use std::path::{Path, PathBuf};
 use std::process::Command;
@@ -24,11 +25,24 @@ pub fn installed() -> bool {
 impl Qemu {
     /// An empty image; `name` is used once in a program.
     pub fn create(name: &str, options: &str, size: &str) -> Qemu {
-        let directory = env::temp_dir().join(format!("compare-{}-{name}", process::id()));
-        fs::create_dir_all(&directory).expect("a directory");
-        let qemu = Qemu { directory };
+        let qemu = Qemu::new(name);
         qemu.img(&["create", "-q", "-f", "qcow2", "-o", options], &[size]);
         qemu
+    }
+
+    /// The same over a raw disk.
+    pub fn create_over(name: &str, options: &str, size: &str, backing: &[u8]) -> Qemu {
+        let qemu = Qemu::new(name);
+        fs::write(qemu.file("base"), backing).expect("the backing file");
+        let over = ["create", "-q", "-f", "qcow2", "-b", "base", "-F", "raw", "-o", options];
+        qemu.img(&over, &[size]);
+        qemu
+    }
+
+    fn new(name: &str) -> Qemu {
+        let directory = env::temp_dir().join(format!("compare-{}-{name}", process::id()));
+        fs::create_dir_all(&directory).expect("a directory");
+        Qemu { directory }
     }
 
     fn file(&self, name: &str) -> PathBuf {

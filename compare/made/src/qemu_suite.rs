@@ -1,6 +1,7 @@
-//! Snapshots of qemu's under one implementation, and what qemu says afterwards.
+//! Snapshots of qemu's and its images over a backing file under one implementation,
+//! and what qemu says afterwards.
 
-use answers::{Calls, Verdict};
+use answers::{Calls, Over, Verdict};
 use plain::plain_disk::{Call, Series};
 
 use crate::plan::per_block;
@@ -16,13 +17,14 @@ const OPTIONS: [(&str, u32, u32); 5] = [
 ];
 const NAMES: [&str; 2] = ["one", "another"];
 
-pub fn snapshots(side: &dyn Calls) {
+pub fn snapshots(calls: &dyn Calls) {
+    let side = Over::none(calls);
     if !installed() {
         println!("qemu-img is not installed");
         return;
     }
     for (options, bits, order) in OPTIONS {
-        let qemu = with_snapshots(&format!("{}-{bits}-{order}", side.name()), options);
+        let qemu = with_snapshots(&format!("{}-{bits}-{order}", calls.name()), options);
         let mut image = qemu.bytes();
         accept(&mut image, bits, order);
         let read = |image: &[u8]| read_all(side, image, qemu.raw(None).len());
@@ -35,6 +37,37 @@ pub fn snapshots(side: &dyn Calls) {
         let after = read(&image);
         assert!(after[0] == qemu.raw(None) && after[0] != now && after[1..] == kept, "{options}");
         assert!(NAMES.iter().zip(&kept).all(|(name, kept)| *kept == qemu.raw(Some(name))));
+    }
+}
+
+/// Images over a raw disk that is shorter than theirs: read as qemu reads them, and
+/// what is written is read by qemu.
+pub fn backing(calls: &dyn Calls) {
+    if !installed() {
+        println!("qemu-img is not installed");
+        return;
+    }
+    let backing = &Rng::new(9).bytes(300_077);
+    let side = Over { calls, backing };
+    for (options, bits, order) in OPTIONS {
+        let name = format!("{}-over-{bits}-{order}", calls.name());
+        let qemu = Qemu::create_over(&name, options, "512k", backing);
+        qemu.io(&["write -P 0x11 5000 30000", "write -z 100000 70000", "discard 65536 65536"]);
+        let mut image = qemu.bytes();
+        accept(&mut image, bits, order);
+        assert_eq!(calls.backing_name(&image), Ok(&b"base"[..]));
+        let read = |image: &[u8]| {
+            let mut out = vec![0xC3; 512 << 10];
+            assert_eq!(side.read(image, 0, &mut out), Ok(()), "{options}");
+            out
+        };
+        let before = read(&image);
+        assert!(before == qemu.raw(None), "{options}");
+        change(side, &mut image);
+        qemu.set_bytes(&image);
+        assert!(qemu.check(), "{options}: qemu-img check");
+        let after = read(&image);
+        assert!(after == qemu.raw(None) && after != before, "{options}");
     }
 }
 
@@ -61,7 +94,7 @@ fn accept(image: &mut Vec<u8>, bits: u32, order: u32) {
 }
 
 /// The bytes of the disk and of both snapshots, in a sound image.
-fn read_all(side: &dyn Calls, image: &[u8], len: usize) -> [Vec<u8>; 3] {
+fn read_all(side: Over, image: &[u8], len: usize) -> [Vec<u8>; 3] {
     assert_eq!(side.check(image, &mut vec![7; image.len() / 256]), Verdict::Sound);
     let mut out = [(); 3].map(|()| vec![0xC3; len]);
     assert_eq!(side.read(image, 0, &mut out[0]), Ok(()));
@@ -72,7 +105,7 @@ fn read_all(side: &dyn Calls, image: &[u8], len: usize) -> [Vec<u8>; 3] {
 }
 
 /// Writes and discards all over the disk, then a repair.
-fn change(side: &dyn Calls, image: &mut [u8]) {
+fn change(side: Over, image: &mut [u8]) {
     let mut series = Series::start(side, image).expect("a sound image");
     let mut rng = Rng::new(8);
     let mut step = |call, allowance| {

@@ -3,16 +3,32 @@
 use std::fs;
 use std::path::{Path, PathBuf};
 
+use answers::{Calls, Over};
+
 pub struct Real {
     pub file: String,
     pub bytes: Vec<u8>,
     /// What the paper's small program writes.
     pub report: String,
-    /// "yes", or why the guest bytes cannot be compared.
+    /// "yes", also over a backing file, or why the guest bytes cannot be compared.
     pub read_equal: String,
     pub guest: Option<Guest>,
     /// The same of each snapshot.
     pub snapshots: Vec<Guest>,
+    /// The bytes of its backing file.
+    pub backing: Vec<u8>,
+}
+
+impl Real {
+    /// Are the guest bytes those that the independent program reads?
+    pub fn reads_equal(&self) -> bool {
+        self.read_equal.starts_with("yes")
+    }
+
+    /// The implementation, lent this image's backing file.
+    pub fn over<'c>(&'c self, calls: &'c dyn Calls) -> Over<'c> {
+        Over { calls, backing: &self.backing }
+    }
 }
 
 /// Guest content as runs of one byte: length and byte.
@@ -48,21 +64,40 @@ pub fn all() -> Vec<Real> {
     text.lines().skip(1).map(row).collect()
 }
 
+/// What the small program writes for each image of the gate, those made by hand
+/// too: the image's bytes and the lines.
+pub fn suite() -> Vec<(String, Vec<u8>, String)> {
+    let suite = directory().join("../crates/image_suite");
+    let text = fs::read_to_string(suite.join("stdout")).expect("stdout");
+    let mut said: Vec<(String, Vec<u8>, String)> = Vec::new();
+    for line in text.lines() {
+        match said.last_mut() {
+            Some((_, _, lines)) if !line.ends_with(".qcow2") => *lines += &format!("{line}\n"),
+            _ => {
+                let bytes = fs::read(suite.join("data").join(line)).expect("an image");
+                said.push((line.into(), bytes, String::new()));
+            }
+        }
+    }
+    said
+}
+
 fn row(line: &str) -> Real {
     let fields: Vec<&str> = line.split('\t').collect();
     let path = directory().join(fields[0]);
     let bytes = fs::read(&path).unwrap_or_else(|error| panic!("{}: {error}", fields[0]));
     assert_eq!(bytes.len().to_string(), fields[1], "{}", fields[0]);
-    let guest = |end: &str| fs::read_to_string(path.with_extension(end)).ok();
-    let snapshots = (0..).map_while(|k| guest(&format!("{k}.guest")));
+    let read = |end: &str| Some(parse(&fs::read_to_string(path.with_extension(end)).ok()?));
+    let whole = |guest: Guest| guest.bytes(0, guest.size() as usize);
     let lines = fields[2].split(" | ").map(|line| line.replace(' ', "\t") + "\n");
     Real {
         file: fields[0].into(),
         bytes,
         report: lines.collect(),
         read_equal: fields[4].into(),
-        guest: guest("guest").map(|text| parse(&text)),
-        snapshots: snapshots.map(|text| parse(&text)).collect(),
+        guest: read("guest"),
+        snapshots: (0..).map_while(|k| read(&format!("{k}.guest"))).collect(),
+        backing: read("backing").map_or_else(Vec::new, whole),
     }
 }
 

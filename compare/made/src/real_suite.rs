@@ -1,20 +1,23 @@
 //! The real images read by one implementation.
 
-use answers::{Calls, Found, Outcome};
+use answers::{Calls, Found, Outcome, Over};
 use plain::plain_disk::{Call, Series};
 
-use crate::real::{all, Real};
+use crate::real::{all, suite, Real};
 use crate::report::report;
 
 /// What the small program writes for each image.
-pub fn reports(side: &dyn Calls) {
+pub fn reports(calls: &dyn Calls) {
     for real in all() {
-        assert_eq!(report(side, &real.bytes), real.report, "{}", real.file);
+        assert_eq!(report(Over::none(calls), &real.bytes), real.report, "{}", real.file);
+    }
+    for (file, bytes, lines) in suite() {
+        assert_eq!(report(Over::none(calls), &bytes), lines, "{file}");
     }
 }
 
 /// Compares the guest bytes in requests of `portion` bytes.
-fn read_all(side: &dyn Calls, real: &Real, portion: usize) {
+fn read_all(side: Over, real: &Real, portion: usize) {
     let guest = real.guest.as_ref().expect("guest bytes");
     let mut offset = 0;
     while offset < guest.size() {
@@ -28,10 +31,11 @@ fn read_all(side: &dyn Calls, real: &Real, portion: usize) {
 }
 
 /// Reads equal what the independent program reads.
-pub fn guest_bytes(side: &dyn Calls) {
+pub fn guest_bytes(calls: &dyn Calls) {
     let mut compared = 0;
     for real in all() {
-        if real.read_equal == "yes" {
+        let side = real.over(calls);
+        if real.reads_equal() {
             read_all(side, &real, 1 << 20);
             if real.bytes.len() < 20_000 {
                 read_all(side, &real, 777);
@@ -44,13 +48,14 @@ pub fn guest_bytes(side: &dyn Calls) {
             assert!(out.iter().all(|&byte| byte == 0xC3));
         }
     }
-    assert!(compared >= 16);
+    assert!(compared >= 19);
 }
 
 /// The same for snapshots.
-pub fn snapshots(side: &dyn Calls) {
+pub fn snapshots(calls: &dyn Calls) {
     let mut compared = 0;
     for real in all() {
+        let side = real.over(calls);
         for (snapshot, guest) in (0..).zip(&real.snapshots) {
             let mut out = vec![0xC3; guest.size() as usize];
             let answer = side.read_snapshot(&real.bytes, snapshot, 0, &mut out);
@@ -59,12 +64,13 @@ pub fn snapshots(side: &dyn Calls) {
             compared += 1;
         }
     }
-    assert!(compared >= 1);
+    assert!(compared >= 2);
 }
 
 /// Lookups agree with translation and with the guest bytes.
-pub fn lookups(side: &dyn Calls) {
-    for real in all().iter().filter(|real| real.read_equal == "yes") {
+pub fn lookups(calls: &dyn Calls) {
+    for real in all().iter().filter(|real| real.reads_equal()) {
+        let side = real.over(calls);
         let guest = real.guest.as_ref().expect("guest bytes");
         let step = if guest.size() > 1 << 20 { 4093 } else { 61 };
         for offset in (0..guest.size()).step_by(step) {
@@ -77,9 +83,9 @@ pub fn lookups(side: &dyn Calls) {
 }
 
 /// Writes, cut writes, discards and repairs on each usable image.
-pub fn series(side: &dyn Calls) {
+pub fn series(calls: &dyn Calls) {
     for real in all().iter().filter(|real| !real.report.contains("damaged")) {
-        match Series::start(side, &real.bytes) {
+        match Series::start(real.over(calls), &real.bytes) {
             Ok(series) => series_of(real, series),
             Err(_) => assert!(real.report.starts_with("refused"), "{}", real.file),
         }

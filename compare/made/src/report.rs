@@ -1,18 +1,18 @@
 //! The text that the paper's small program writes for an image.
 
-use answers::{Calls, Verdict};
+use answers::{Over, Verdict};
 
 fn number(image: &[u8], at: usize, len: usize) -> u64 {
     image[at..at + len].iter().fold(0, |value, &byte| value << 8 | u64::from(byte))
 }
 
 /// Lines with their fields parted by tabs.
-pub fn report(calls: &dyn Calls, image: &[u8]) -> String {
+pub fn report(side: Over, image: &[u8]) -> String {
     if image.len() > 65_536 {
         return "refused\tlong\n".into();
     }
     let mut scratch = vec![0; image.len()];
-    let verdict = calls.check(image, &mut scratch);
+    let verdict = side.check(image, &mut scratch);
     if let Verdict::Refused(number) = verdict {
         return format!("refused\t{number}\n");
     }

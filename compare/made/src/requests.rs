@@ -9,6 +9,7 @@ use crate::rng::Rng;
 #[derive(Clone)]
 pub enum Request {
     Geometry,
+    BackingName,
     Translate {
         offset: u64,
     },
@@ -68,7 +69,7 @@ impl fmt::Debug for Request {
     fn fmt(&self, to: &mut fmt::Formatter) -> fmt::Result {
         write!(to, "{}", self.name())?;
         match self {
-            Request::Geometry => Ok(()),
+            Request::Geometry | Request::BackingName => Ok(()),
             Request::Translate { offset } | Request::Lookup { offset } => {
                 write!(to, " at {offset}")
             }
@@ -122,6 +123,7 @@ impl Request {
     pub fn name(&self) -> &'static str {
         match self {
             Request::Geometry => "geometry",
+            Request::BackingName => "backing_name",
             Request::Translate { .. } => "translate",
             Request::Read { .. } => "read",
             Request::ReadSnapshot { .. } => "read_snapshot",
@@ -164,6 +166,7 @@ impl<'m> Requests<'m> {
             6 => Request::Check { scratch: self.scratch(rng) },
             7..=8 => self.runs(rng),
             20..=22 => self.steps(rng),
+            23 if rng.once_in(2) => Request::BackingName,
             23 => Request::Geometry,
             _ => self.storing(rng),
         }
@@ -223,6 +226,12 @@ impl<'m> Requests<'m> {
         let cluster = self.made.cluster() as u64;
         if rng.once_in(5) {
             return edge(self.made.size, cluster, rng);
+        }
+        if !self.made.backing.is_empty() && rng.once_in(8) {
+            // Around the end of what is lent.
+            let before = rng.below(cluster);
+            let near = rng.pick(&[0, 1, 2, cluster, before]);
+            return (self.made.backing.len() as u64 + 1).saturating_sub(near);
         }
         let start = self.guest_cluster(rng).wrapping_mul(cluster);
         let random = rng.below(cluster);

@@ -1,14 +1,11 @@
-//! Drivers of random runs over images that all have snapshots.
+//! Random images that all have snapshots.
 
-use answers::Calls;
-
+use crate::backing;
 use crate::breaks::break_header;
 use crate::damage;
-use crate::drive::{compare_cuts_on, compare_on, series_cuts_on, series_on, without_snapshots};
+use crate::drive::without_snapshots;
 use crate::image::Made;
-use crate::pair::Pair;
 use crate::plan::Plan;
-use crate::requests::Request;
 use crate::rng::Rng;
 use crate::snapshots::{add, MAX_SNAPSHOTS};
 
@@ -61,9 +58,23 @@ pub fn usable(rng: &mut Rng) -> Made {
     made
 }
 
+/// The same, at times over a backing file.
+pub fn usable_over(rng: &mut Rng) -> Made {
+    backing::maybe(usable(rng), rng)
+}
+
 /// Usable, damaged or refused for its snapshot table.
 pub fn any(rng: &mut Rng) -> Made {
-    let mut made = usable(rng);
+    damaged(usable(rng), rng)
+}
+
+/// The same, at times over a backing file.
+pub fn any_over(rng: &mut Rng) -> Made {
+    damaged(usable_over(rng), rng)
+}
+
+/// At times so.
+fn damaged(mut made: Made, rng: &mut Rng) -> Made {
     match rng.below(12) {
         0..=3 => {}
         4 => _ = break_header(&mut made, 21, rng),
@@ -84,29 +95,4 @@ pub fn any(rng: &mut Rng) -> Made {
         }
     }
     made
-}
-
-/// Feeds both sides requests and cut requests until `calls` were made.
-pub fn compare(pair: &mut Pair, rng: &mut Rng, calls: u64) {
-    while pair.calls < calls {
-        let made = any(rng);
-        pair.load(&made.bytes);
-        pair.run(&Request::Check { scratch: made.scratch() });
-        compare_on(pair, &made, rng);
-        if rng.once_in(4) {
-            compare_cuts_on(pair, &made, rng);
-        }
-    }
-}
-
-/// Series of one side, whole and cut, until `calls` calls were made; how many
-/// were finished, stopped and refused in the whole ones.
-pub fn series(side: &dyn Calls, rng: &mut Rng, calls: u64) -> [u64; 3] {
-    let (mut ended, mut cut) = ([0; 3], 0);
-    while ended.iter().sum::<u64>() + cut < calls {
-        let made = usable(rng);
-        series_on(side, &made, rng, &mut ended);
-        cut += series_cuts_on(side, &made, rng);
-    }
-    ended
 }

@@ -1,8 +1,8 @@
 //! The steps of calls on sound and leaking images, for one implementation: they
 //! are just what the call changes, and a store that brings the finished image's
-//! bytes to a drive epoch by epoch may lose any sectors of the last.
+//! bytes to a drive epoch by epoch may lose any sectors of the last, or any units.
 
-use answers::{Calls, Outcome, Step, STEP};
+use answers::{Calls, Outcome, Over, Step, STEP};
 use plain::plain_disk::Series;
 
 use crate::clearing::call as run;
@@ -27,12 +27,19 @@ pub struct Met {
     pub refused: u64,
 }
 
-/// Series of calls on random images, every second with snapshots, until so many
-/// were made.
-pub fn follow(side: &dyn Calls, rng: &mut Rng, calls: u64) -> Met {
+/// Random images, every second with snapshots.
+pub fn any_usable(rng: &mut Rng) -> Made {
+    match rng.once_in(2) {
+        true => usable(rng),
+        false => snapshot_drive::usable_over(rng),
+    }
+}
+
+/// Series of calls on such images, until so many were made.
+pub fn follow(side: &dyn Calls, rng: &mut Rng, calls: u64, such: fn(&mut Rng) -> Made) -> Met {
     let mut met = Met::default();
     while met.calls < calls {
-        let made = if rng.once_in(2) { usable(rng) } else { snapshot_drive::usable(rng) };
+        let made = such(rng);
         follow_on(side, &made, rng, &mut met);
     }
     met
@@ -41,7 +48,7 @@ pub fn follow(side: &dyn Calls, rng: &mut Rng, calls: u64) -> Met {
 /// One series; each call is cut before it is made, and autoclear bits are set
 /// again at times.
 pub fn follow_on(side: &dyn Calls, made: &Made, rng: &mut Rng, met: &mut Met) {
-    let mut image = made.bytes.clone();
+    let (side, mut image) = (made.over(side), made.bytes.clone());
     let mut series = Series::start(side, &image).expect("a usable image");
     let mut requests = Requests::new(made);
     for _ in 0..4 + rng.below(8) {
@@ -57,7 +64,7 @@ pub fn follow_on(side: &dyn Calls, made: &Made, rng: &mut Rng, met: &mut Met) {
 
 /// The steps of one request on this image.
 fn look(
-    side: &dyn Calls,
+    side: Over,
     series: &Series,
     image: &[u8],
     request: &Request,
@@ -81,14 +88,14 @@ fn look(
     case.are_filled();
     case.are_units(rng);
     for epoch in (0..3).filter(|epoch| case.steps.iter().any(|step| step.epoch == *epoch)) {
-        (0..6).for_each(|turn| case.cut(epoch, turn, rng));
+        Kept::TRIED.into_iter().for_each(|kept| case.cut(epoch, kept, rng));
         met.cuts[epoch as usize] += 1;
     }
 }
 
 /// A call that was not refused, with its steps.
 struct Case<'a> {
-    side: &'a dyn Calls,
+    side: Over<'a>,
     series: &'a Series<'a>,
     image: &'a [u8],
     request: &'a Request,
@@ -134,7 +141,6 @@ impl Case<'_> {
 
     /// Each unit stores in its own place: of a fill one byte, else the step's.
     fn are_units(&self, rng: &mut Rng) {
-        let after = |units| run(self.side, self.image, &with_allowance(self.request, units)).1;
         let mut done = 0;
         for step in self.steps.iter().take(8) {
             let random = rng.below(step.units);
@@ -143,7 +149,7 @@ impl Case<'_> {
                     1 => step.range(),
                     _ => step.at + unit as usize..step.at + unit as usize + 1,
                 };
-                let (mut fewer, more) = (after(done + unit), after(done + unit + 1));
+                let (mut fewer, more) = (self.after(done + unit), self.after(done + unit + 1));
                 fewer[place.clone()].copy_from_slice(&more[place]);
                 assert!(fewer == more, "unit {unit} of {step:?}: {:?}", self.request);
             }
@@ -151,31 +157,94 @@ impl Case<'_> {
         }
     }
 
-    /// A power cut in this epoch, which loses all of its sectors, none, or some;
-    /// then the request is made once more, or a repair.
-    fn cut(&self, epoch: u64, turn: u64, rng: &mut Rng) {
-        let seed = rng.number();
-        let kept = |sector: usize| match turn {
-            0 => false,
-            1 => true,
-            _ => Rng::new(seed ^ sector as u64).once_in(2),
-        };
-        let of = |wanted: fn(&u64, &u64) -> bool| -> Vec<Step> {
-            self.steps.iter().copied().filter(|step| wanted(&step.epoch, &epoch)).collect()
-        };
-        let mut now = self.image.to_vec();
-        bring(&mut now, &self.finished, &of(u64::lt), |_| true);
-        bring(&mut now, &self.finished, &of(u64::eq), kept);
+    /// A power cut in this epoch; then the request is made once more, or a repair.
+    fn cut(&self, epoch: u64, kept: Kept, rng: &mut Rng) {
+        let mut now = self.left(epoch, kept, rng);
         let mut series = self.series.clone();
         let holds = series.cut(self.image, call(self.request).0, &now);
         holds.unwrap_or_else(|fault| panic!("{fault}: cut in epoch {epoch}: {:?}", self.request));
         let repair = Request::Repair { scratch: 2 * now.len() / SECTOR, allowance: ALL };
         step(&mut series, &mut now, if rng.once_in(2) { self.request } else { &repair });
     }
+
+    /// What a drive holds after a power cut in this epoch.
+    fn left(&self, epoch: u64, kept: Kept, rng: &mut Rng) -> Vec<u8> {
+        let start = self.steps.partition_point(|step| step.epoch < epoch);
+        let end = self.steps.partition_point(|step| step.epoch <= epoch);
+        let mut now = self.image.to_vec();
+        bring(&mut now, &self.finished, &self.steps[..start], |_| true);
+        let (seed, steps) = (rng.number(), &self.steps[start..end]);
+        let some = |sector: usize| Rng::new(seed ^ sector as u64).once_in(2);
+        match kept {
+            Kept::Nothing => {}
+            Kept::All => bring(&mut now, &self.finished, steps, |_| true),
+            Kept::Sectors => bring(&mut now, &self.finished, steps, some),
+            Kept::Units => {
+                for index in (start..end).filter(|_| steps.len() <= 16 || rng.once_in(16)) {
+                    self.make(&mut now, index, Rng::new(seed ^ index as u64));
+                }
+            }
+            Kept::Rough => {
+                let next = start + rng.index(steps.len());
+                now = self.after(self.units_before(next));
+                self.make(&mut now, next, Rng::new(seed));
+            }
+        }
+        now
+    }
+
+    /// Makes units of a step: of a fill any bytes, else its one unit or not.
+    fn make(&self, now: &mut [u8], index: usize, mut rng: Rng) {
+        let (step, done) = (self.steps[index], self.units_before(index));
+        let (before, after) = (self.after(done), self.after(done + step.units));
+        let (is_fill, is_made) = (step.units > 1, rng.once_in(2));
+        for at in step.range() {
+            match step.len {
+                _ if is_fill && rng.once_in(2) || !is_fill && !is_made => {}
+                // A count, whose byte may have others.
+                1 | 2 | 4 if !is_fill => now[at] ^= before[at] ^ after[at],
+                _ => now[at] = after[at],
+            }
+        }
+    }
+
+    /// What the call leaves with this allowance.
+    fn after(&self, units: u64) -> Vec<u8> {
+        run(self.side, self.image, &with_allowance(self.request, units)).1
+    }
+
+    fn units_before(&self, index: usize) -> u64 {
+        self.steps[..index].iter().map(|step| step.units).sum()
+    }
+}
+
+/// What a power cut leaves stored of an epoch.
+#[derive(Clone, Copy)]
+enum Kept {
+    Nothing,
+    All,
+    /// Any sectors.
+    Sectors,
+    /// Any units.
+    Units,
+    /// The first units, and any bytes of the fill that comes next.
+    Rough,
+}
+
+impl Kept {
+    const TRIED: [Kept; 7] = [
+        Kept::Nothing,
+        Kept::All,
+        Kept::Sectors,
+        Kept::Sectors,
+        Kept::Units,
+        Kept::Units,
+        Kept::Rough,
+    ];
 }
 
 /// All steps of a storing request.
-pub fn steps(side: &dyn Calls, image: &[u8], request: &Request) -> Result<Vec<Step>, u32> {
+pub fn steps(side: Over, image: &[u8], request: &Request) -> Result<Vec<Step>, u32> {
     let scratch = match *request {
         Request::Repair { scratch, .. } => scratch,
         _ => 0,

@@ -128,7 +128,7 @@ pub fn compare_lists(pair: &mut Pair, rng: &mut Rng) -> u64 {
 /// Feeds both sides the images, and asks for the steps of each list.
 pub fn compare_steps(pair: &mut Pair, rng: &mut Rng) {
     for (made, requests) in all_cases(rng) {
-        pair.load(&made.bytes);
+        pair.load(&made);
         for request in &requests {
             let all = STEP * (made.clusters() + 1);
             [all, 31, 27, 9].into_iter().for_each(|room| _ = pair.run(&request.steps(room)));
@@ -138,13 +138,13 @@ pub fn compare_steps(pair: &mut Pair, rng: &mut Rng) {
 
 fn compare_list(pair: &mut Pair, made: &Made, request: &Request, rng: &mut Rng) -> u64 {
     let check = Request::Check { scratch: made.scratch() };
-    pair.load(&made.bytes);
+    pair.load(made);
     pair.run(&check);
     let Some(Outcome::Finished(units)) = pair.run(request) else {
         return 0;
     };
     for cut in cuts(units, 512, rng) {
-        pair.load(&made.bytes);
+        pair.load(made);
         pair.run(&with_allowance(request, cut));
         pair.run(&check);
         pair.run(request);
@@ -161,7 +161,7 @@ pub fn series_at_every_unit(side: &dyn Calls) {
         [6, 7, 9].into_iter().for_each(|cluster| made.set_count(cluster, made.most()));
         for units in 0..=1030 {
             let mut image = made.bytes.clone();
-            let mut series = Series::start(side, &image).expect("a leaking image");
+            let mut series = Series::start(made.over(side), &image).expect("a leaking image");
             let mut step = |call, allowance| {
                 let answer = series.step(&mut image, call, allowance);
                 answer.unwrap_or_else(|fault| panic!("order {order} at {units}: {fault}"))

@@ -12,8 +12,8 @@ use crate::references::Count;
 use crate::width::Figure;
 
 /// Counts the references into `scratch` and judges the stored counts by them.
-pub fn check(image: &[u8], scratch: &mut [u8]) -> Verdict {
-    match examine(image, scratch) {
+pub fn check(image: &[u8], backing: &[u8], scratch: &mut [u8]) -> Verdict {
+    match examine(image, backing, scratch) {
         Ok((_, verdict)) => verdict,
         Err(number) => Verdict::Refused(number),
     }
@@ -21,8 +21,8 @@ pub fn check(image: &[u8], scratch: &mut [u8]) -> Verdict {
 
 /// Sets the counts of a leaking image to its references, cut after `allowance`
 /// units; `scratch` ends as the check leaves it.
-pub fn repair(image: &mut [u8], scratch: &mut [u8], allowance: u64) -> Outcome {
-    let (header, leaks) = match examine(image, scratch) {
+pub fn repair(image: &mut [u8], backing: &[u8], scratch: &mut [u8], allowance: u64) -> Outcome {
+    let (header, leaks) = match examine(image, backing, scratch) {
         Err(number) => return Outcome::Refused(number),
         Ok((_, Verdict::Sound)) => return Outcome::Finished(0),
         Ok((header, Verdict::Leaks(leaks))) => (header, leaks),
@@ -45,8 +45,12 @@ pub fn difference(stored: u64, figure: u16) -> i32 {
     (i128::from(stored) - i128::from(figure)).min(65_535) as i32
 }
 
-pub(crate) fn examine(image: &[u8], scratch: &mut [u8]) -> Result<(Header, Verdict), u32> {
-    let header = Header::judge(image)?;
+pub(crate) fn examine<'b>(
+    image: &[u8],
+    backing: &'b [u8],
+    scratch: &mut [u8],
+) -> Result<(Header<'b>, Verdict), u32> {
+    let header = Header::judge(image, backing)?;
     let figures = scratch.get_mut(..2 * header.clusters).ok_or(15u32)?;
     figures.fill(0);
     let figures = figures.as_chunks_mut().0;

@@ -11,7 +11,7 @@ pub(crate) fn compare(header: &Header, image: &[u8], figures: &[Figure]) -> Verd
 }
 
 struct Compare<'a> {
-    header: &'a Header,
+    header: &'a Header<'a>,
     image: &'a [u8],
     figures: &'a [Figure],
 }
@@ -64,7 +64,7 @@ pub(crate) fn store_references(header: &Header, image: &mut [u8], scratch: &[u8]
 }
 
 struct StoreReferences<'a> {
-    header: &'a Header,
+    header: &'a Header<'a>,
     image: &'a mut [u8],
     figures: &'a [Figure],
     left: u64,

@@ -4,7 +4,7 @@ use crate::cell::Cell;
 use crate::header::{be64, Header};
 use crate::width::{for_width, ForWidth, Width};
 
-impl Header {
+impl Header<'_> {
     /// Counts in one refcount block.
     pub fn per_block(&self) -> usize {
         1 << self.per_block_bits()
@@ -32,7 +32,7 @@ impl Header {
 }
 
 struct NextFree<'a> {
-    header: &'a Header,
+    header: &'a Header<'a>,
     image: &'a [u8],
     start: usize,
 }

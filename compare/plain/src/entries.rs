@@ -89,15 +89,7 @@ impl Rules {
     }
 }
 
-impl Mapping {
-    /// Place of the guest bytes, unless they read as zeros.
-    #[inline]
-    pub fn host(&self) -> Option<usize> {
-        (self.place != 0 && !self.zeros).then_some(self.place)
-    }
-}
-
-impl Header {
+impl Header<'_> {
     /// Index in the L1 table and in the L2 table.
     pub fn indices(&self, cluster: u64) -> (usize, usize) {
         let l2_bits = self.cluster_bits - 3;

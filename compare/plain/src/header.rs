@@ -1,7 +1,7 @@
-//! The header, judged afresh by every call: numbers 1 to 8, 18, 9, 10 and 21,
+//! The header, judged afresh by every call: numbers 1 to 8, 18, 9, 10, 19 and 21,
 //! tried in this order.
 
-use std::ops::RangeInclusive;
+use std::ops::{Range, RangeInclusive};
 
 use crate::snapshots::Snapshots;
 
@@ -13,6 +13,8 @@ const MAX_DISK: u64 = 1 << 40;
 pub(crate) const MAX_L1: u64 = 65_536;
 const MAX_ORDER: u32 = 6;
 const MAX_SNAPSHOTS: u32 = 64;
+/// Bytes of the longest name of a backing file.
+const MAX_NAME: u64 = 1023;
 /// Version 2 has no such field.
 const VERSION_2_ORDER: u32 = 4;
 const SECTOR: u64 = 512;
@@ -53,7 +55,7 @@ impl Disk {
 }
 
 /// A header that was accepted, with every place known to be inside the image.
-pub(crate) struct Header {
+pub(crate) struct Header<'b> {
     pub version: u32,
     pub cluster_bits: u32,
     /// A stored count has 2^order bits.
@@ -68,11 +70,14 @@ pub(crate) struct Header {
     pub clusters: usize,
     /// Refcount blocks (B).
     pub blocks: usize,
+    /// The bytes of the backing file: of an accepted image none exactly where it
+    /// has no backing file.
+    pub backing: &'b [u8],
 }
 
-impl Header {
+impl<'b> Header<'b> {
     /// The accepted header, or the first of its numbers that applies.
-    pub fn judge(image: &[u8]) -> Result<Header, u32> {
+    pub fn judge(image: &[u8], backing: &'b [u8]) -> Result<Header<'b>, u32> {
         let (version, cluster_bits) = shape(image)?;
         let order = features(image, version)?;
         let size = be64(image, 24);
@@ -90,13 +95,30 @@ impl Header {
         if !header.blocks_are_good(image) {
             return Err(10);
         }
+        let backing = match backing_name(image, cluster_bits)? {
+            None => &[],
+            Some(_) if backing.is_empty() => return Err(19),
+            Some(_) => backing,
+        };
         let snapshots = Snapshots::judge(image, cluster_bits, be64(image, 64), be32(image, 60))?;
-        Ok(Header { snapshots, ..header })
+        Ok(Header { snapshots, backing, ..header })
     }
 
     /// Cluster size (C).
     pub fn cluster(&self) -> usize {
         1 << self.cluster_bits
+    }
+
+    /// Has the image a backing file?
+    pub fn is_backed(&self) -> bool {
+        !self.backing.is_empty()
+    }
+
+    /// What lies underneath a guest offset, as far as the backing file goes; zeros
+    /// come after it.
+    #[inline]
+    pub fn under(&self, offset: u64) -> &'b [u8] {
+        self.backing.get(offset as usize..).unwrap_or_default()
     }
 
     /// Guest clusters that begin below the disk's end.
@@ -143,7 +165,7 @@ fn shape(image: &[u8]) -> Result<(u32, u32), u32> {
 
 /// Numbers 6 and 7: refcount_order.
 fn features(image: &[u8], version: u32) -> Result<u32, u32> {
-    if be64(image, 8) != 0 || be32(image, 32) != 0 || be32(image, 60) > MAX_SNAPSHOTS {
+    if be32(image, 32) != 0 || be32(image, 60) > MAX_SNAPSHOTS {
         return Err(6);
     }
     if version == 2 {
@@ -171,7 +193,7 @@ fn tables(
     (version, cluster_bits, order): (u32, u32, u32),
     size: u64,
     l1_size: u64,
-) -> Result<Header, u32> {
+) -> Result<Header<'static>, u32> {
     let fits = |at, len| fits(image, cluster_bits, at, len);
     let l1_at = be64(image, 40);
     let table_at = be64(image, 48);
@@ -193,12 +215,35 @@ fn tables(
         table_clusters: table_clusters as usize,
         clusters: clusters as usize,
         blocks: blocks as usize,
+        backing: &[],
     })
+}
+
+/// Number 19, for the name of the backing file: where it stands, if there is one.
+/// It has to lie inside the first cluster; the place may be near 2^64.
+pub(crate) fn backing_name(image: &[u8], cluster_bits: u32) -> Result<Option<Range<usize>>, u32> {
+    let (at, len) = (be64(image, 8), u64::from(be32(image, 16)));
+    if at == 0 {
+        return Ok(None);
+    }
+    let cluster = 1 << cluster_bits;
+    if !(1..=MAX_NAME).contains(&len) || at > cluster || len > cluster - at {
+        return Err(19);
+    }
+    Ok(Some(at as usize..(at + len) as usize))
 }
 
 fn all_zero(bytes: &[u8]) -> bool {
     let (groups, rest) = bytes.as_chunks::<512>();
     groups.iter().all(|group| zero(group)) && zero(rest)
+}
+
+/// Fills `part` with the first of these bytes, and with zeros past their end.
+#[inline]
+pub(crate) fn lay(part: &mut [u8], bytes: &[u8]) {
+    let (head, tail) = part.split_at_mut(part.len().min(bytes.len()));
+    head.copy_from_slice(&bytes[..head.len()]);
+    tail.fill(0);
 }
 
 /// By vectors; straight code where the length is known.

@@ -22,13 +22,16 @@ mod wide;
 mod width;
 mod words;
 
-pub use answers::{Found, Geometry, Outcome, Run, Step, Verdict};
+pub use answers::{Found, Geometry, Outcome, Over, Run, Step, Verdict};
 pub use check::{check, difference, repair};
 pub use reading::{lookup, read, read_snapshot, runs, translate};
-pub use steps::{discard_steps, geometry, repair_steps, write_steps};
+pub use steps::{backing_name, discard_steps, geometry, repair_steps, write_steps};
 pub use storing::{discard, write};
 
 /// This crate as an implementation of [`answers::Calls`].
 pub struct Plain;
 
-answers::calls_by_functions!(Plain, "plain");
+answers::calls!(functions Plain "plain");
+
+/// The same with no bytes of a backing file lent.
+pub const ALONE: Over = Over::none(&Plain);

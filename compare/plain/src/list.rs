@@ -4,15 +4,15 @@
 use answers::{Outcome, Step};
 
 use crate::cell::Cell;
-use crate::header::{Header, AUTOCLEAR};
+use crate::header::{lay, Header, AUTOCLEAR};
 
 /// One run of unit stores.
 #[derive(Clone, Copy)]
 pub(crate) enum Store<'a> {
-    /// One unit for each byte: `len` bytes from `at` on, all zero but for
-    /// `data` from byte `start` of them on. A list that is only to be looked at
-    /// has no data.
-    Fill { at: usize, len: usize, start: usize, data: &'a [u8] },
+    /// One unit for each byte: `len` bytes from `at` on, those of `under` and then
+    /// zeros, but for `data` from byte `start` of them on. A list that is only to be
+    /// looked at has no data.
+    Fill { at: usize, len: usize, under: &'a [u8], start: usize, data: &'a [u8] },
     /// One unit: a stored count.
     Count { cell: Cell, value: u64 },
     /// One unit: an L1 or L2 entry, or autoclear_features.
@@ -119,7 +119,9 @@ impl Store<'_> {
     /// Makes the first `units` units of this run.
     fn make(&self, image: &mut [u8], units: usize) {
         match *self {
-            Store::Fill { at, start, data, .. } => fill(&mut image[at..at + units], start, data),
+            Store::Fill { at, under, start, data, .. } => {
+                fill(&mut image[at..at + units], under, start, data);
+            }
             _ if units == 0 => {}
             Store::Count { cell, value } => cell.store(image, value),
             Store::Entry { at, value } => {
@@ -129,11 +131,11 @@ impl Store<'_> {
     }
 }
 
-/// Zeros with `data` from `start` on, as far as `part` goes.
-fn fill(part: &mut [u8], start: usize, data: &[u8]) {
+/// What lies underneath with `data` from `start` on, as far as `part` goes.
+fn fill(part: &mut [u8], under: &[u8], start: usize, data: &[u8]) {
     let (head, rest) = part.split_at_mut(start.min(part.len()));
     let (body, tail) = rest.split_at_mut(data.len().min(rest.len()));
-    head.fill(0);
+    lay(head, under);
     body.copy_from_slice(&data[..body.len()]);
-    tail.fill(0);
+    lay(tail, under.get(start + data.len()..).unwrap_or_default());
 }

@@ -4,10 +4,10 @@
 
 use std::collections::{BTreeMap, BTreeSet};
 
-use answers::{Calls, Outcome, Verdict};
+use answers::{Outcome, Over, Verdict};
 
 use crate::entries::Rules;
-use crate::header::{be64, Disk, Header};
+use crate::header::{be64, lay, Disk, Header};
 use crate::list::List;
 use crate::storing::{discard_list, write_list};
 
@@ -30,17 +30,20 @@ pub enum Call<'a> {
     },
 }
 
-/// Guest bytes in pages of the cluster size; a missing page is all zeros.
+/// Guest bytes in pages of the cluster size; a missing page is the backing file's,
+/// zeros past its end or where there is none.
 #[derive(Clone)]
-struct PlainDisk {
+struct PlainDisk<'c> {
     size: u64,
     page: u64,
     pages: BTreeMap<u64, Vec<u8>>,
+    backing: &'c [u8],
 }
 
-impl PlainDisk {
+impl PlainDisk<'_> {
     fn get(&self, offset: u64, len: usize) -> Vec<u8> {
         let mut bytes = vec![0; len];
+        lay(&mut bytes, self.backing.get(offset as usize..).unwrap_or_default());
         self.parts(offset, len, |number, at, range| {
             if let Some(page) = self.pages.get(&number) {
                 bytes[range.clone()].copy_from_slice(&page[at..at + range.len()]);
@@ -53,12 +56,16 @@ impl PlainDisk {
         let mut parts = Vec::new();
         self.parts(offset, bytes.len(), |number, at, range| parts.push((number, at, range)));
         for (number, at, range) in parts {
-            if !self.pages.contains_key(&number) && bytes[range.clone()].iter().all(|&b| b == 0) {
+            let missing = !self.pages.contains_key(&number);
+            let (from, bytes) = (offset + range.start as u64, &bytes[range]);
+            if missing && self.get(from, bytes.len()) == bytes {
                 continue;
             }
-            let size = self.page as usize;
-            let page = self.pages.entry(number).or_insert_with(|| vec![0; size]);
-            page[at..at + range.len()].copy_from_slice(&bytes[range]);
+            if missing {
+                self.pages.insert(number, self.get(number * self.page, self.page as usize));
+            }
+            let page = self.pages.get_mut(&number).expect("a page");
+            page[at..at + bytes.len()].copy_from_slice(bytes);
         }
     }
 
@@ -84,18 +91,17 @@ impl PlainDisk {
 /// of its list and whether that stores a count, or the number.
 type Settled = Result<(u64, bool), u32>;
 
-fn settle(image: &[u8], call: Call) -> Settled {
+fn settle(image: &[u8], backing: &[u8], call: Call) -> Settled {
+    let settled = |list: List| (list.units(), list.stores_a_count());
     match call {
-        Call::Write { offset, data } => write_list(image, offset, data.len() as u64, data)
-            .map(|list| (list.units(), list.stores_a_count())),
-        Call::Discard { cluster } => {
-            discard_list(image, cluster).map(|list| (list.units(), list.stores_a_count()))
+        Call::Write { offset, data } => {
+            write_list(image, backing, (offset, data.len() as u64), data).map(settled)
         }
-        Call::Repair { scratch } => match crate::check(image, &mut vec![0; scratch]) {
+        Call::Discard { cluster } => discard_list(image, backing, cluster).map(settled),
+        Call::Repair { scratch } => match crate::check(image, backing, &mut vec![0; scratch]) {
             Verdict::Sound => Ok((0, false)),
-            Verdict::Leaks(leaks) => {
-                Header::judge(image).map(|header| (List::clearing(&header).units() + leaks, true))
-            }
+            Verdict::Leaks(leaks) => Header::judge(image, backing)
+                .map(|header| (List::clearing(&header).units() + leaks, true)),
             Verdict::Refused(number) => Err(number),
             _ => Err(17),
         },
@@ -113,22 +119,23 @@ fn expected(settled: Settled, allowance: u64) -> Outcome {
 /// Bytes of a snapshot's disk: its number, the offset and the bytes.
 type Kept = (u64, u64, Vec<u8>);
 
-/// A series of calls of one implementation, followed by the plain disk.
+/// A series of calls of one implementation, each lent the same backing file,
+/// followed by the plain disk.
 #[derive(Clone)]
 pub struct Series<'c> {
-    calls: &'c dyn Calls,
-    disk: PlainDisk,
+    side: Over<'c>,
+    disk: PlainDisk<'c>,
     /// What the snapshots have kept.
     kept: Vec<Kept>,
 }
 
 impl<'c> Series<'c> {
     /// Starts from an image that is sound or leaking.
-    pub fn start(calls: &'c dyn Calls, image: &[u8]) -> Result<Series<'c>, String> {
-        let header = Header::judge(image).map_err(|number| format!("refused {number}"))?;
-        let page = header.cluster() as u64;
-        let disk = PlainDisk { size: header.disk.size, page, pages: BTreeMap::new() };
-        let mut series = Series { calls, disk, kept: Vec::new() };
+    pub fn start(side: Over<'c>, image: &[u8]) -> Result<Series<'c>, String> {
+        let header = judge(image, side.backing)?;
+        let (size, page) = (header.disk.size, header.cluster() as u64);
+        let disk = PlainDisk { size, page, pages: BTreeMap::new(), backing: header.backing };
+        let mut series = Series { side, disk, kept: Vec::new() };
         series.kept = series.snapshots(image)?;
         for (offset, len) in series.reads(image) {
             let bytes = series.read(image, offset, len)?;
@@ -145,7 +152,7 @@ impl<'c> Series<'c> {
         call: Call,
         allowance: u64,
     ) -> Result<Outcome, String> {
-        let settled = settle(image, call);
+        let settled = settle(image, self.side.backing, call);
         let outcome = self.run(image, call, allowance);
         let expected = expected(settled, allowance);
         if outcome != expected {
@@ -160,17 +167,18 @@ impl<'c> Series<'c> {
     /// A call on `image` whose stores reached a drive in part, which then holds
     /// `now`: the claim is that of a stopped call.
     pub fn cut(&mut self, image: &[u8], call: Call, now: &[u8]) -> Result<(), String> {
-        let counts = settle(image, call).is_ok_and(|(_, counts)| counts);
+        let settled = settle(image, self.side.backing, call);
+        let counts = settled.is_ok_and(|(_, counts)| counts);
         self.feed(now, call, Outcome::Stopped(0), counts)?;
         self.hold(now, false)
     }
 
     fn run(&self, image: &mut [u8], call: Call, allowance: u64) -> Outcome {
         match call {
-            Call::Write { offset, data } => self.calls.write(image, offset, data, allowance),
-            Call::Discard { cluster } => self.calls.discard(image, cluster, allowance),
+            Call::Write { offset, data } => self.side.write(image, offset, data, allowance),
+            Call::Discard { cluster } => self.side.discard(image, cluster, allowance),
             Call::Repair { scratch } => {
-                self.calls.repair(image, &mut vec![0xA5; scratch], allowance)
+                self.side.repair(image, &mut vec![0xA5; scratch], allowance)
             }
         }
     }
@@ -222,11 +230,11 @@ impl<'c> Series<'c> {
             return Err("a snapshot has changed".into());
         }
         let mut scratch = vec![0x5A; 2 * image.len() / self.disk.page as usize];
-        let verdict = self.calls.check(image, &mut scratch);
+        let verdict = self.side.check(image, &mut scratch);
         if !verdict.is_usable() || repaired && verdict != Verdict::Sound {
             return Err(format!("the check says {verdict:?}"));
         }
-        let header = Header::judge(image).map_err(|number| format!("refused {number}"))?;
+        let header = judge(image, self.side.backing)?;
         let differs = |cluster: usize| {
             let count = header.cell(image, cluster).load(image);
             (count == 0) != (scratch[2 * cluster..][..2] == [0; 2])
@@ -239,7 +247,7 @@ impl<'c> Series<'c> {
 
     fn read(&self, image: &[u8], offset: u64, len: usize) -> Result<Vec<u8>, String> {
         let mut out = vec![0xC3; len];
-        match self.calls.read(image, offset, &mut out) {
+        match self.side.read(image, offset, &mut out) {
             Ok(()) => Ok(out),
             Err(number) => Err(format!("read of {len} at {offset} refused {number}")),
         }
@@ -247,24 +255,23 @@ impl<'c> Series<'c> {
 
     /// The reads that show the whole disk.
     fn reads(&self, image: &[u8]) -> Vec<(u64, usize)> {
-        let PlainDisk { size, page, ref pages } = self.disk;
-        let Ok(header) = Header::judge(image) else {
+        let Ok(header) = judge(image, self.side.backing) else {
             return Vec::new();
         };
         let mut wanted = mapped(&header, image, header.disk);
-        wanted.extend(pages.keys());
-        showing(size, page, wanted)
+        wanted.extend(self.disk.pages.keys());
+        self.showing(self.disk.size, wanted)
     }
 
     /// What the snapshots' disks hold.
     fn snapshots(&self, image: &[u8]) -> Result<Vec<Kept>, String> {
-        let header = Header::judge(image).map_err(|number| format!("refused {number}"))?;
+        let header = judge(image, self.side.backing)?;
         let mut kept = Vec::new();
         for (snapshot, &disk) in (0..).zip(&header.snapshots.disks) {
             let wanted = mapped(&header, image, disk);
-            for (offset, len) in showing(disk.size, self.disk.page, wanted) {
+            for (offset, len) in self.showing(disk.size, wanted) {
                 let mut out = vec![0xC3; len];
-                match self.calls.read_snapshot(image, snapshot, offset, &mut out) {
+                match self.side.read_snapshot(image, snapshot, offset, &mut out) {
                     Ok(()) => kept.push((snapshot, offset, out)),
                     Err(number) => return Err(format!("snapshot {snapshot} refused {number}")),
                 }
@@ -272,22 +279,29 @@ impl<'c> Series<'c> {
         }
         Ok(kept)
     }
+
+    /// The reads that show a whole disk: one, or for a long disk one around each of
+    /// the guest clusters that can be other than what lies underneath, around the
+    /// end of this, and the disk's ends.
+    fn showing(&self, size: u64, clusters: Vec<u64>) -> Vec<(u64, usize)> {
+        if size <= WHOLE {
+            return vec![(0, size as usize)];
+        }
+        let page = self.disk.page;
+        let (last, end) = ((size - 1) / page, self.disk.backing.len() as u64 / page);
+        let mut wanted: BTreeSet<u64> = clusters.into_iter().collect();
+        wanted.extend([0, end.min(last), last]);
+        let around = |cluster: u64| {
+            let from = (cluster * page).saturating_sub(1);
+            let to = size.min((cluster + 1) * page + 1);
+            (from, (to - from) as usize)
+        };
+        wanted.into_iter().map(around).collect()
+    }
 }
 
-/// The reads that show a whole disk: one, or for a long disk one around each of
-/// the guest clusters that can be other than zeros, and the disk's ends.
-fn showing(size: u64, page: u64, clusters: Vec<u64>) -> Vec<(u64, usize)> {
-    if size <= WHOLE {
-        return vec![(0, size as usize)];
-    }
-    let mut wanted: BTreeSet<u64> = clusters.into_iter().collect();
-    wanted.extend([0, (size - 1) / page]);
-    let around = |cluster: u64| {
-        let from = (cluster * page).saturating_sub(1);
-        let to = size.min((cluster + 1) * page + 1);
-        (from, (to - from) as usize)
-    };
-    wanted.into_iter().map(around).collect()
+fn judge<'b>(image: &[u8], backing: &'b [u8]) -> Result<Header<'b>, String> {
+    Header::judge(image, backing).map_err(|number| format!("refused {number}"))
 }
 
 /// Guest clusters below the disk's end whose L2 entry is not 0.

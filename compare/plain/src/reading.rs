@@ -5,11 +5,11 @@ use std::ops::Range;
 use answers::{Found, Run};
 
 use crate::entries::{Mapping, Rules, Slot};
-use crate::header::{be64, Disk, Header};
+use crate::header::{be64, lay, Disk, Header};
 
 /// What stands behind `offset`.
-pub fn translate(image: &[u8], offset: u64) -> Found {
-    Header::judge(image)
+pub fn translate(image: &[u8], backing: &[u8], offset: u64) -> Found {
+    Header::judge(image, backing)
         .and_then(|header| find(&header, image, offset))
         .unwrap_or_else(Found::Refused)
 }
@@ -27,8 +27,8 @@ fn find(header: &Header, image: &[u8], offset: u64) -> Result<Found, u32> {
 
 /// The guest bytes from `offset` to the end of its cluster or of the disk, as
 /// a part of the image; empty where translation gives no host offset.
-pub fn lookup(image: &[u8], offset: u64) -> &[u8] {
-    let Ok(header) = Header::judge(image) else {
+pub fn lookup<'a>(image: &'a [u8], backing: &[u8], offset: u64) -> &'a [u8] {
+    let Ok(header) = Header::judge(image, backing) else {
         return &[];
     };
     let Ok(Found::Host(host)) = find(&header, image, offset) else {
@@ -41,14 +41,20 @@ pub fn lookup(image: &[u8], offset: u64) -> &[u8] {
 }
 
 /// Fills `out` with the guest bytes from `offset` on, or refuses and leaves it.
-pub fn read(image: &[u8], offset: u64, out: &mut [u8]) -> Result<(), u32> {
-    let header = Header::judge(image)?;
+pub fn read(image: &[u8], backing: &[u8], offset: u64, out: &mut [u8]) -> Result<(), u32> {
+    let header = Header::judge(image, backing)?;
     read_disk(&header, image, header.disk, offset, out)
 }
 
 /// The same of the disk that a snapshot has kept, as far as its L1 table reaches.
-pub fn read_snapshot(image: &[u8], snapshot: u64, offset: u64, out: &mut [u8]) -> Result<(), u32> {
-    let header = Header::judge(image)?;
+pub fn read_snapshot(
+    image: &[u8],
+    backing: &[u8],
+    snapshot: u64,
+    offset: u64,
+    out: &mut [u8],
+) -> Result<(), u32> {
+    let header = Header::judge(image, backing)?;
     let disk = *header.snapshots.disks.get(snapshot as usize).ok_or(11u32)?;
     read_disk(&header, image, disk, offset, out)
 }
@@ -64,24 +70,47 @@ fn read_disk(
         return Err(11);
     }
     visit(header, image, disk, offset..offset + out.len() as u64, |_, _| ())?;
-    visit(header, image, disk, offset..offset + out.len() as u64, |host, part| match host {
-        Some(host) => {
+    visit(header, image, disk, offset..offset + out.len() as u64, |source, part| match source {
+        Source::Image(host) => {
             let bytes = &image[host..host + part.len()];
             out[part].copy_from_slice(bytes);
         }
-        None => out[part].fill(0),
+        Source::Zeros => out[part].fill(0),
+        Source::Under => {
+            let bytes = header.under(offset + part.start as u64);
+            lay(&mut out[part], bytes);
+        }
     })
 }
 
+/// Where guest bytes come from.
+enum Source {
+    /// From this place of the image on.
+    Image(usize),
+    Zeros,
+    /// From what lies underneath.
+    Under,
+}
+
+impl Source {
+    #[inline]
+    fn of(mapping: Mapping, inside: usize) -> Source {
+        match mapping {
+            Mapping { zeros: true, .. } => Source::Zeros,
+            Mapping { place: 0, .. } => Source::Under,
+            Mapping { place, .. } => Source::Image(place + inside),
+        }
+    }
+}
+
 /// Visits a guest range in rising order, each L1 entry and each L2 entry once:
-/// `part(host, range)` is told where each part of the range lies, None for
-/// zeros.
+/// `part(source, range)` is told where each part of the range comes from.
 fn visit(
     header: &Header,
     image: &[u8],
     disk: Disk,
     range: Range<u64>,
-    mut part: impl FnMut(Option<usize>, Range<usize>),
+    mut part: impl FnMut(Source, Range<usize>),
 ) -> Result<(), u32> {
     let rules = Rules::of(header);
     let cluster = header.cluster();
@@ -95,7 +124,7 @@ fn visit(
         let stop = done + to_table_end.min((len - done) as u64) as usize;
         let table = rules.l1(be64(image, disk.l1_at + 8 * l1_index)).ok_or(12u32)?;
         if table == 0 {
-            part(None, done..stop);
+            part(Source::Under, done..stop);
             done = stop;
             continue;
         }
@@ -103,7 +132,7 @@ fn visit(
         for entry in image[table..table + cluster].as_chunks().0[l2_index..].iter() {
             let mapping = rules.mapping(u64::from_be_bytes(*entry))?;
             let end = stop.min(done + cluster - inside);
-            part(mapping.host().map(|host| host + inside), done..end);
+            part(Source::of(mapping, inside), done..end);
             (done, inside) = (end, 0);
             if done == stop {
                 break;
@@ -115,8 +144,14 @@ fn visit(
 
 /// Fills `rows` with the runs of a guest range, three numbers each, as far as
 /// they have room; how many.
-pub fn runs(image: &[u8], offset: u64, len: u64, rows: &mut [u64]) -> Result<usize, u32> {
-    let header = Header::judge(image)?;
+pub fn runs(
+    image: &[u8],
+    backing: &[u8],
+    offset: u64,
+    len: u64,
+    rows: &mut [u64],
+) -> Result<usize, u32> {
+    let header = Header::judge(image, backing)?;
     if !header.disk.holds(offset, len) {
         return Err(11);
     }

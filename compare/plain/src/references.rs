@@ -8,7 +8,7 @@ use crate::owners::{Owner, Owners};
 use crate::width::Figure;
 
 pub(crate) struct Count<'a, O> {
-    header: &'a Header,
+    header: &'a Header<'a>,
     image: &'a [u8],
     figures: &'a mut [Figure],
     pub owners: O,
@@ -21,7 +21,7 @@ pub(crate) struct Count<'a, O> {
 impl<'a, O: Owners> Count<'a, O> {
     /// Counts into figures that are 0.
     pub fn new(
-        header: &'a Header,
+        header: &'a Header<'a>,
         image: &'a [u8],
         figures: &'a mut [Figure],
         owners: O,

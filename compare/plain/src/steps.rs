@@ -3,29 +3,53 @@
 use answers::{Geometry, Step, Verdict, STEP};
 
 use crate::check::examine;
-use crate::header::Header;
+use crate::header::{self, Header};
 use crate::list::{List, Store};
 use crate::storing::{discard_list, write_list};
 
 /// Cluster size, disk size and number of clusters.
-pub fn geometry(image: &[u8]) -> Result<Geometry, u32> {
-    let Header { cluster_bits, disk, clusters, .. } = Header::judge(image)?;
+pub fn geometry(image: &[u8], backing: &[u8]) -> Result<Geometry, u32> {
+    let Header { cluster_bits, disk, clusters, .. } = Header::judge(image, backing)?;
     Ok(Geometry { cluster_bits, size: disk.size, clusters })
 }
 
+/// The name of the backing file; empty where there is none.
+pub fn backing_name(image: &[u8]) -> Result<&[u8], u32> {
+    // Any bytes will do: the name alone is judged.
+    let header = Header::judge(image, &[0])?;
+    let name = header::backing_name(image, header.cluster_bits)?;
+    Ok(name.map_or(&[], |name| &image[name]))
+}
+
 /// The steps of a write of `len` bytes, as many as `rows` have room for.
-pub fn write_steps(image: &[u8], offset: u64, len: u64, rows: &mut [u64]) -> Result<usize, u32> {
-    Ok(put(write_list(image, offset, len, &[])?.steps(), rows))
+pub fn write_steps(
+    image: &[u8],
+    backing: &[u8],
+    offset: u64,
+    len: u64,
+    rows: &mut [u64],
+) -> Result<usize, u32> {
+    Ok(put(write_list(image, backing, (offset, len), &[])?.steps(), rows))
 }
 
 /// The same for a discard.
-pub fn discard_steps(image: &[u8], cluster: u64, rows: &mut [u64]) -> Result<usize, u32> {
-    Ok(put(discard_list(image, cluster)?.steps(), rows))
+pub fn discard_steps(
+    image: &[u8],
+    backing: &[u8],
+    cluster: u64,
+    rows: &mut [u64],
+) -> Result<usize, u32> {
+    Ok(put(discard_list(image, backing, cluster)?.steps(), rows))
 }
 
 /// The same for a repair; `scratch` ends as the repair leaves it.
-pub fn repair_steps(image: &[u8], scratch: &mut [u8], rows: &mut [u64]) -> Result<usize, u32> {
-    let header = match examine(image, scratch)? {
+pub fn repair_steps(
+    image: &[u8],
+    backing: &[u8],
+    scratch: &mut [u8],
+    rows: &mut [u64],
+) -> Result<usize, u32> {
+    let header = match examine(image, backing, scratch)? {
         (_, Verdict::Sound) => return Ok(0),
         (header, Verdict::Leaks(_)) => header,
         _ => return Err(17),

@@ -6,7 +6,7 @@ use made::clearing;
 use made::image::{Made, AUTOCLEAR, USED};
 use made::pair::Pair;
 use made::plan::bench_image;
-use plain::{check, discard, repair, write, Outcome, Plain, Verdict};
+use plain::{Outcome, Plain, Verdict, ALONE};
 
 const ALL: u64 = u64::MAX;
 const BITS: u64 = 0x8000_0000_0000_0001;
@@ -44,7 +44,7 @@ fn first_unit() {
     let made = with_bits();
     let cut = |allowance| {
         let mut image = made.bytes.clone();
-        let outcome = write(&mut image, 33_285, b"hello", allowance);
+        let outcome = ALONE.write(&mut image, 33_285, b"hello", allowance);
         (outcome, changed(&made.bytes, &image))
     };
     assert_eq!(cut(0), (Outcome::Stopped(0), vec![]));
@@ -60,22 +60,22 @@ fn first_unit() {
 #[test]
 fn figures_one_by_one() {
     let mut image = with_bits().bytes;
-    assert_eq!(write(&mut image, 33_285, b"hello", ALL), Outcome::Finished(1029));
-    assert_eq!(write(&mut image, 33_280, b"abc", ALL), Outcome::Finished(3));
+    assert_eq!(ALONE.write(&mut image, 33_285, b"hello", ALL), Outcome::Finished(1029));
+    assert_eq!(ALONE.write(&mut image, 33_280, b"abc", ALL), Outcome::Finished(3));
     let again = |image: &[u8]| {
         let mut image = image.to_vec();
         image[AUTOCLEAR + 3] = 7;
         image
     };
-    assert_eq!(write(&mut again(&image), 33_280, b"abc", ALL), Outcome::Finished(4));
-    assert_eq!(write(&mut again(&image), 32_768, b"x", ALL), Outcome::Finished(515));
-    assert_eq!(discard(&mut again(&image), 65, ALL), Outcome::Finished(3));
+    assert_eq!(ALONE.write(&mut again(&image), 33_280, b"abc", ALL), Outcome::Finished(4));
+    assert_eq!(ALONE.write(&mut again(&image), 32_768, b"x", ALL), Outcome::Finished(515));
+    assert_eq!(ALONE.discard(&mut again(&image), 65, ALL), Outcome::Finished(3));
     let mut leaking = again(&image);
     leaking[1024 + 2 * 9 + 1] = 1;
-    assert_eq!(repair(&mut leaking.clone(), &mut [0; 32], 1), Outcome::Stopped(1));
-    assert_eq!(repair(&mut leaking, &mut [0; 32], ALL), Outcome::Finished(2));
+    assert_eq!(ALONE.repair(&mut leaking.clone(), &mut [0; 32], 1), Outcome::Stopped(1));
+    assert_eq!(ALONE.repair(&mut leaking, &mut [0; 32], ALL), Outcome::Finished(2));
     assert_eq!(leaking, image);
-    assert_eq!(check(&leaking, &mut [0; 32]), Verdict::Sound);
+    assert_eq!(ALONE.check(&leaking, &mut [0; 32]), Verdict::Sound);
 }
 
 /// An empty list and a refusal leave the bits.
@@ -83,16 +83,16 @@ fn figures_one_by_one() {
 fn nothing_to_store() {
     let made = with_bits();
     let mut image = made.bytes.clone();
-    assert_eq!(write(&mut image, 0, &[], ALL), Outcome::Finished(0));
-    assert_eq!(discard(&mut image, 127, ALL), Outcome::Finished(0));
-    assert_eq!(repair(&mut image, &mut [0; 32], ALL), Outcome::Finished(0));
-    assert_eq!(write(&mut image, 510, &[1; 3], ALL), Outcome::Refused(11));
-    assert_eq!(discard(&mut image, 128, ALL), Outcome::Refused(11));
-    assert_eq!(repair(&mut image, &mut [0; 31], ALL), Outcome::Refused(15));
+    assert_eq!(ALONE.write(&mut image, 0, &[], ALL), Outcome::Finished(0));
+    assert_eq!(ALONE.discard(&mut image, 127, ALL), Outcome::Finished(0));
+    assert_eq!(ALONE.repair(&mut image, &mut [0; 32], ALL), Outcome::Finished(0));
+    assert_eq!(ALONE.write(&mut image, 510, &[1; 3], ALL), Outcome::Refused(11));
+    assert_eq!(ALONE.discard(&mut image, 128, ALL), Outcome::Refused(11));
+    assert_eq!(ALONE.repair(&mut image, &mut [0; 31], ALL), Outcome::Refused(15));
     assert_eq!(image, made.bytes);
     image[1024 + 3] = 0;
     let damaged = image.clone();
-    assert_eq!(repair(&mut image, &mut [0; 32], ALL), Outcome::Refused(17));
+    assert_eq!(ALONE.repair(&mut image, &mut [0; 32], ALL), Outcome::Refused(17));
     assert_eq!(image, damaged);
 }
 
@@ -109,10 +109,10 @@ fn entry_in_the_field() {
     let guest = 11 * 64 + 5;
     let mut image = made.bytes.clone();
     let offset = guest * 512 + 9;
-    assert_eq!(write(&mut image, offset, b"abc", 1), Outcome::Stopped(1));
+    assert_eq!(ALONE.write(&mut image, offset, b"abc", 1), Outcome::Stopped(1));
     assert_eq!(image[AUTOCLEAR..AUTOCLEAR + 8], [0; 8]);
     let mut image = made.bytes.clone();
-    assert_eq!(write(&mut image, offset, b"abc", ALL), Outcome::Finished(515));
+    assert_eq!(ALONE.write(&mut image, offset, b"abc", ALL), Outcome::Finished(515));
     assert_eq!(image[AUTOCLEAR..AUTOCLEAR + 8], [0; 8]);
     assert_eq!(image[table + 40..table + 48], (USED | 5 << 9).to_be_bytes());
     assert_eq!(&image[5 * 512 + 9..5 * 512 + 12], b"abc");
@@ -120,9 +120,9 @@ fn entry_in_the_field() {
     // the next call clears.
     made.put64(AUTOCLEAR, 0);
     let mut image = made.bytes.clone();
-    assert_eq!(write(&mut image, offset, b"abc", ALL), Outcome::Finished(1028));
+    assert_eq!(ALONE.write(&mut image, offset, b"abc", ALL), Outcome::Finished(1028));
     assert_eq!(image[AUTOCLEAR..AUTOCLEAR + 8], (USED | 5 << 9).to_be_bytes());
-    assert_eq!(write(&mut image, offset, b"abc", ALL), Outcome::Finished(4));
+    assert_eq!(ALONE.write(&mut image, offset, b"abc", ALL), Outcome::Finished(4));
     assert_eq!(image[AUTOCLEAR..AUTOCLEAR + 8], [0; 8]);
 }
 
@@ -133,7 +133,7 @@ fn table_on_the_field() {
     let mut made = with_bits();
     made.set_count(0, 0);
     let mut image = made.bytes.clone();
-    assert_eq!(write(&mut image, 11 * 512, b"abc", ALL), Outcome::Finished(1029));
+    assert_eq!(ALONE.write(&mut image, 11 * 512, b"abc", ALL), Outcome::Finished(1029));
     assert_eq!(image[AUTOCLEAR..AUTOCLEAR + 8], (USED | 4 << 9).to_be_bytes());
     assert_eq!(image[..AUTOCLEAR], [0; AUTOCLEAR]);
     assert_eq!(&image[4 * 512..4 * 512 + 3], b"abc");

@@ -8,25 +8,23 @@ use made::image::Made;
 use made::longest;
 use made::plan::{bench_image, Plan};
 use made::rng::Rng;
-use plain::{
-    check, discard, lookup, read, read_snapshot, repair, runs, translate, write, Found, Outcome,
-    Verdict,
-};
+use plain::{Found, Outcome, Over, Plain, Verdict, ALONE};
 
 /// Every call refuses the image with this number and changes nothing.
 fn all_refuse(made: &mut Made, number: u32) {
     let before = made.bytes.clone();
-    let image = &mut made.bytes;
+    let (side, image) = (Over { calls: &Plain, backing: &made.backing }, &mut made.bytes);
     let (mut scratch, mut out, mut numbers) = ([7; 3], [7; 3], [7; 3]);
-    assert_eq!(translate(image, u64::MAX), Found::Refused(number));
-    assert_eq!(read(image, u64::MAX, &mut out), Err(number));
-    assert_eq!(read_snapshot(image, u64::MAX, u64::MAX, &mut out), Err(number));
-    assert!(lookup(image, 0).is_empty());
-    assert_eq!(runs(image, u64::MAX, u64::MAX, &mut numbers), Err(number));
-    assert_eq!(write(image, u64::MAX, &out, 9), Outcome::Refused(number));
-    assert_eq!(discard(image, u64::MAX, 9), Outcome::Refused(number));
-    assert_eq!(check(image, &mut scratch[..0]), Verdict::Refused(number));
-    assert_eq!(repair(image, &mut scratch, 9), Outcome::Refused(number));
+    assert_eq!(side.translate(image, u64::MAX), Found::Refused(number));
+    assert_eq!(side.read(image, u64::MAX, &mut out), Err(number));
+    assert_eq!(side.read_snapshot(image, u64::MAX, u64::MAX, &mut out), Err(number));
+    assert!(side.lookup(image, 0).is_empty());
+    assert_eq!(side.geometry(image), Err(number));
+    assert_eq!(side.runs(image, u64::MAX, u64::MAX, &mut numbers), Err(number));
+    assert_eq!(side.write(image, u64::MAX, &out, 9), Outcome::Refused(number));
+    assert_eq!(side.discard(image, u64::MAX, 9), Outcome::Refused(number));
+    assert_eq!(side.check(image, &mut scratch[..0]), Verdict::Refused(number));
+    assert_eq!(side.repair(image, &mut scratch, 9), Outcome::Refused(number));
     assert!(*image == before && scratch == [7; 3] && out == [7; 3] && numbers == [7; 3]);
 }
 
@@ -51,7 +49,7 @@ fn breaks() {
 }
 
 fn refusal(image: &[u8]) -> u32 {
-    match check(image, &mut vec![0; image.len() / 256 + 1]) {
+    match ALONE.check(image, &mut vec![0; image.len() / 256 + 1]) {
         Verdict::Refused(number) => number,
         _ => 0,
     }
@@ -122,14 +120,14 @@ fn partial_cluster() {
     };
     let mut made = plan.build(&mut Rng::new(3));
     let image = &mut made.bytes;
-    assert_eq!(write(image, 65_023, &[5, 5], u64::MAX), Outcome::Refused(11));
-    assert_eq!(write(image, 65_023, &[5], u64::MAX), Outcome::Finished(2052));
-    assert_eq!(lookup(image, 65_023), [5]);
-    assert_eq!(lookup(image, 64_512).len(), 512);
-    assert_eq!(translate(image, 65_024), Found::Refused(11));
-    assert_eq!(discard(image, 64, u64::MAX), Outcome::Refused(11));
-    assert_eq!(discard(image, 63, u64::MAX), Outcome::Finished(2));
-    assert_eq!(translate(image, 65_023), Found::Absent);
+    assert_eq!(ALONE.write(image, 65_023, &[5, 5], u64::MAX), Outcome::Refused(11));
+    assert_eq!(ALONE.write(image, 65_023, &[5], u64::MAX), Outcome::Finished(2052));
+    assert_eq!(ALONE.lookup(image, 65_023), [5]);
+    assert_eq!(ALONE.lookup(image, 64_512).len(), 512);
+    assert_eq!(ALONE.translate(image, 65_024), Found::Refused(11));
+    assert_eq!(ALONE.discard(image, 64, u64::MAX), Outcome::Refused(11));
+    assert_eq!(ALONE.discard(image, 63, u64::MAX), Outcome::Finished(2));
+    assert_eq!(ALONE.translate(image, 65_023), Found::Absent);
 }
 
 #[test]
@@ -139,19 +137,19 @@ fn order_after_ten() {
     made.put64(made.l1_at, 1);
     let image = &mut made.bytes;
     // 11 before the entry, a length of 0 looks at none, 15 before the verdict.
-    assert_eq!(translate(image, 65_536), Found::Refused(11));
-    assert_eq!(translate(image, 65_535), Found::Absent);
-    assert_eq!(translate(image, 0), Found::Refused(12));
-    assert_eq!(read(image, 0, &mut [0; 65_537]), Err(11));
-    assert_eq!(read(image, 32_767, &mut [0; 2]), Err(12));
-    assert_eq!(read(image, 0, &mut []), Ok(()));
-    assert_eq!(write(image, 0, &[], 0), Outcome::Finished(0));
-    assert_eq!(write(image, 0, &[1], 0), Outcome::Refused(12));
-    assert_eq!(discard(image, 63, 0), Outcome::Refused(12));
-    assert_eq!(check(image, &mut scratch[..31]), Verdict::Refused(15));
-    assert_eq!(repair(image, &mut scratch[..31], 0), Outcome::Refused(15));
+    assert_eq!(ALONE.translate(image, 65_536), Found::Refused(11));
+    assert_eq!(ALONE.translate(image, 65_535), Found::Absent);
+    assert_eq!(ALONE.translate(image, 0), Found::Refused(12));
+    assert_eq!(ALONE.read(image, 0, &mut [0; 65_537]), Err(11));
+    assert_eq!(ALONE.read(image, 32_767, &mut [0; 2]), Err(12));
+    assert_eq!(ALONE.read(image, 0, &mut []), Ok(()));
+    assert_eq!(ALONE.write(image, 0, &[], 0), Outcome::Finished(0));
+    assert_eq!(ALONE.write(image, 0, &[1], 0), Outcome::Refused(12));
+    assert_eq!(ALONE.discard(image, 63, 0), Outcome::Refused(12));
+    assert_eq!(ALONE.check(image, &mut scratch[..31]), Verdict::Refused(15));
+    assert_eq!(ALONE.repair(image, &mut scratch[..31], 0), Outcome::Refused(15));
     assert_eq!(scratch, [7; 32]);
-    assert_eq!(repair(image, &mut scratch, 0), Outcome::Refused(17));
+    assert_eq!(ALONE.repair(image, &mut scratch, 0), Outcome::Refused(17));
     assert_eq!(scratch[..10], [0, 1, 0, 1, 0, 1, 0, 1, 0, 0]);
     assert_eq!(scratch[10..], [0; 22]);
 }

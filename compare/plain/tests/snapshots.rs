@@ -1,6 +1,7 @@
 //! Images with snapshots: numbers, reads, refused writes and verdicts.
 #![forbid(unsafe_code)]
 
+use made::drive;
 use made::hostile;
 use made::image::{Kind, Made, USED};
 use made::pair::Pair;
@@ -8,9 +9,7 @@ use made::plan::bench_image;
 use made::rng::{setting, Rng};
 use made::snapshot_drive;
 use made::snapshots::keep_all;
-use plain::{
-    check, discard, lookup, read, read_snapshot, repair, translate, write, Found, Outcome, Verdict,
-};
+use plain::{Found, Outcome, Verdict, ALONE};
 
 const ALL: u64 = u64::MAX;
 /// The clusters of [`image`].
@@ -49,7 +48,7 @@ fn copied() -> Made {
 }
 
 fn verdict(made: &Made) -> Verdict {
-    check(&made.bytes, &mut vec![7; made.scratch()])
+    ALONE.check(&made.bytes, &mut vec![7; made.scratch()])
 }
 
 /// The verdict with an entry or a field changed.
@@ -61,7 +60,7 @@ fn with(made: &Made, at: usize, value: u64) -> Verdict {
 
 fn figures(made: &Made) -> Vec<u16> {
     let mut scratch = vec![7; made.scratch()];
-    check(&made.bytes, &mut scratch);
+    ALONE.check(&made.bytes, &mut scratch);
     scratch.as_chunks().0.iter().map(|&figure| u16::from_be_bytes(figure)).collect()
 }
 
@@ -76,21 +75,21 @@ fn sound() {
 #[test]
 fn scratch_of_two_bytes() {
     let made = image();
-    assert_eq!(check(&made.bytes, &mut [0; 31]), Verdict::Refused(15));
-    assert_eq!(check(&made.bytes, &mut [0; 32]), Verdict::Sound);
-    assert_eq!(repair(&mut made.bytes.clone(), &mut [0; 31], ALL), Outcome::Refused(15));
+    assert_eq!(ALONE.check(&made.bytes, &mut [0; 31]), Verdict::Refused(15));
+    assert_eq!(ALONE.check(&made.bytes, &mut [0; 32]), Verdict::Sound);
+    assert_eq!(ALONE.repair(&mut made.bytes.clone(), &mut [0; 31], ALL), Outcome::Refused(15));
 }
 
 #[test]
 fn reads() {
     let made = copied();
     let (kept, mut out) = (&made.bytes[DATA..DATA + 512], [0xC3; 512]);
-    assert_eq!(read_snapshot(&made.bytes, 0, OFFSET, &mut out), Ok(()));
+    assert_eq!(ALONE.read_snapshot(&made.bytes, 0, OFFSET, &mut out), Ok(()));
     assert_eq!(out, kept);
-    assert_eq!(read(&made.bytes, OFFSET, &mut out), Ok(()));
-    assert_eq!((out, lookup(&made.bytes, OFFSET)), ([7; 512], &[7; 512][..]));
-    assert_eq!(translate(&made.bytes, OFFSET), Found::Host(9 * 512));
-    assert_eq!(read_snapshot(&made.bytes, 0, OFFSET + 500, &mut out[..24]), Ok(()));
+    assert_eq!(ALONE.read(&made.bytes, OFFSET, &mut out), Ok(()));
+    assert_eq!((out, ALONE.lookup(&made.bytes, OFFSET)), ([7; 512], &[7; 512][..]));
+    assert_eq!(ALONE.translate(&made.bytes, OFFSET), Found::Host(9 * 512));
+    assert_eq!(ALONE.read_snapshot(&made.bytes, 0, OFFSET + 500, &mut out[..24]), Ok(()));
     assert_eq!((&out[..12], &out[12..24]), (&kept[500..], &[0; 12][..]));
 }
 
@@ -102,7 +101,7 @@ fn reach() {
     made.put64(24, 512);
     let read = |made: &Made, snapshot, offset, len| {
         let mut out = vec![0xC3; len];
-        let answer = read_snapshot(&made.bytes, snapshot, offset, &mut out);
+        let answer = ALONE.read_snapshot(&made.bytes, snapshot, offset, &mut out);
         assert!(answer.is_ok() || out.iter().all(|&byte| byte == 0xC3));
         answer
     };
@@ -124,7 +123,7 @@ fn reach() {
     made.put64(KEPT_L1, 1);
     assert_eq!(read(&made, 0, 0, 1), Err(12));
     assert_eq!(read(&made, 0, 32_768, 1), Ok(()));
-    assert_eq!(plain::read(&made.bytes, 0, &mut [0]), Ok(()));
+    assert_eq!(ALONE.read(&made.bytes, 0, &mut [0]), Ok(()));
     made.put64(TABLE + 8, 1 << 62);
     assert_eq!(read(&made, 0, OFFSET, 513), Err(13));
     assert_eq!(read(&made, 0, OFFSET, 512), Ok(()));
@@ -137,10 +136,10 @@ fn refused(made: &Made, guest: u64) -> [u32; 2] {
         _ => 0,
     };
     let mut image = made.bytes.clone();
-    let write = number(write(&mut image, guest * 512 + 9, b"abc", ALL));
+    let write = number(ALONE.write(&mut image, guest * 512 + 9, b"abc", ALL));
     assert!(write == 0 || image == made.bytes);
     let mut image = made.bytes.clone();
-    let discard = number(discard(&mut image, guest, ALL));
+    let discard = number(ALONE.discard(&mut image, guest, ALL));
     assert!(discard == 0 || image == made.bytes);
     [write, discard]
 }
@@ -153,7 +152,7 @@ fn held_by_a_snapshot() {
         assert_eq!(refused(&made, guest), [22, 22]);
     }
     assert_eq!(refused(&made, 0), [0, 0]);
-    assert_eq!(write(&mut made.bytes.clone(), OFFSET, &[], ALL), Outcome::Finished(0));
+    assert_eq!(ALONE.write(&mut made.bytes.clone(), OFFSET, &[], ALL), Outcome::Finished(0));
     // A bad L1 entry is 12; a compressed or bad L2 entry is not looked at.
     for (at, entry, number) in
         [(L1 + 8, TABLE as u64 | 1, 12), (TABLE, 1 << 62, 22), (TABLE, 2, 22)]
@@ -242,7 +241,7 @@ fn bad_entries() {
     made.put64(KEPT_L1, 1);
     assert_eq!(with(&made, L1 + 8, 2), Verdict::BadL1(1));
     let scratch = &mut vec![7; made.scratch()];
-    assert_eq!(repair(&mut made.bytes, scratch, ALL), Outcome::Refused(17));
+    assert_eq!(ALONE.repair(&mut made.bytes, scratch, ALL), Outcome::Refused(17));
     assert_eq!(scratch[8..12], [0, 1, 0, 1]);
     // Snapshots in their order.
     let mut made = bench_image();
@@ -309,9 +308,9 @@ fn short_and_leaking() {
     }
     assert_eq!(verdict(&made), Verdict::Leaks(4));
     let scratch = &mut vec![7; made.scratch()];
-    assert_eq!(repair(&mut made.bytes, scratch, 2), Outcome::Stopped(2));
+    assert_eq!(ALONE.repair(&mut made.bytes, scratch, 2), Outcome::Stopped(2));
     assert_eq!((made.count(4), made.count(5), made.count(7)), (2, 2, 2));
-    assert_eq!(repair(&mut made.bytes, scratch, ALL), Outcome::Finished(2));
+    assert_eq!(ALONE.repair(&mut made.bytes, scratch, ALL), Outcome::Finished(2));
     assert!(made.bytes == sound);
 }
 
@@ -320,14 +319,14 @@ fn short_and_leaking() {
 fn units() {
     let mut made = copied();
     let mut kept = [0; 512];
-    assert_eq!(read_snapshot(&made.bytes, 0, OFFSET, &mut kept), Ok(()));
+    assert_eq!(ALONE.read_snapshot(&made.bytes, 0, OFFSET, &mut kept), Ok(()));
     let image = &mut made.bytes;
-    assert_eq!(write(image, OFFSET, b"abc", ALL), Outcome::Finished(3));
-    assert_eq!(write(image, OFFSET + 512, b"abc", ALL), Outcome::Finished(514));
-    assert_eq!(write(image, 0, b"abc", ALL), Outcome::Finished(1028));
-    assert_eq!(discard(image, GUEST, ALL), Outcome::Finished(2));
+    assert_eq!(ALONE.write(image, OFFSET, b"abc", ALL), Outcome::Finished(3));
+    assert_eq!(ALONE.write(image, OFFSET + 512, b"abc", ALL), Outcome::Finished(514));
+    assert_eq!(ALONE.write(image, 0, b"abc", ALL), Outcome::Finished(1028));
+    assert_eq!(ALONE.discard(image, GUEST, ALL), Outcome::Finished(2));
     let mut after = [0; 512];
-    assert_eq!(read_snapshot(image, 0, OFFSET, &mut after), Ok(()));
+    assert_eq!(ALONE.read_snapshot(image, 0, OFFSET, &mut after), Ok(()));
     assert_eq!(after, kept);
     assert_eq!(verdict(&made), Verdict::Sound);
 }
@@ -357,7 +356,12 @@ fn qemu() {
 #[test]
 fn random_series() {
     let mut rng = Rng::from_env("series beside snapshots", 35);
-    let ended = snapshot_drive::series(&plain::Plain, &mut rng, setting("CALLS", 20_000));
+    let ended = drive::series_such(
+        &plain::Plain,
+        &mut rng,
+        setting("CALLS", 20_000),
+        snapshot_drive::usable,
+    );
     println!("finished, stopped, refused: {ended:?}");
     assert!(ended.iter().all(|&count| count > 0));
 }
@@ -366,7 +370,7 @@ fn random_series() {
 fn both_sides() {
     let mut rng = Rng::from_env("both sides, snapshots", 36);
     let mut pair = Pair::new(&plain::Plain, &plain::Plain);
-    snapshot_drive::compare(&mut pair, &mut rng, setting("CALLS", 30_000));
+    drive::compare_such(&mut pair, &mut rng, setting("CALLS", 30_000), snapshot_drive::any_over);
     println!("{:#?}", pair.tally);
     let missing = snapshot_drive::WANTED.iter().find(|kind| !pair.tally.contains_key(**kind));
     assert!(pair.calls < 30_000 || missing.is_none(), "{missing:?}");

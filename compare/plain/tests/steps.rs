@@ -8,9 +8,9 @@ use made::pair::Pair;
 use made::plan::{bench_image, Plan, MAX_ORDER};
 use made::requests::Request;
 use made::rng::{setting, Rng};
-use made::steps::{bring, follow, follow_on, steps, Met};
+use made::steps::{any_usable, bring, follow, follow_on, steps, Met};
 use plain::plain_disk::{Call, Series};
-use plain::{geometry, write_steps, Geometry, Plain, Step};
+use plain::{Geometry, Plain, Step, ALONE};
 
 const ALL: u64 = u64::MAX;
 
@@ -28,7 +28,7 @@ fn repair() -> Request {
 
 /// Each step as at, len, units and epoch.
 fn listed(made: &Made, request: &Request) -> Vec<[u64; 4]> {
-    steps(&Plain, &made.bytes, request).expect("a list").into_iter().map(Step::row).collect()
+    steps(ALONE, &made.bytes, request).expect("a list").into_iter().map(Step::row).collect()
 }
 
 /// The bench image with an L2 table in cluster 4: data in cluster 5, a zero mark
@@ -105,10 +105,10 @@ fn counts_of_each_width() {
 fn geometries() {
     let made = sound();
     let known = Geometry { cluster_bits: 9, size: 65_536, clusters: 16 };
-    assert_eq!(geometry(&made.bytes), Ok(known));
+    assert_eq!(ALONE.geometry(&made.bytes), Ok(known));
     assert_eq!((known.cluster(), known.scratch()), (512, 32));
-    assert_eq!(geometry(&made.bytes[..511]), Err(1));
-    assert_eq!(geometry(&made.bytes[..513]), Err(5));
+    assert_eq!(ALONE.geometry(&made.bytes[..511]), Err(1));
+    assert_eq!(ALONE.geometry(&made.bytes[..513]), Err(5));
 }
 
 /// Of many steps those are listed that there is room for.
@@ -120,7 +120,7 @@ fn short_rows() {
     assert_eq!(all.len(), 28);
     for room in 0..=31 {
         let mut rows = vec![9; room];
-        let count = write_steps(&made.bytes, 0, 1, &mut rows);
+        let count = ALONE.write_steps(&made.bytes, 0, 1, &mut rows);
         assert_eq!(count, Ok((room / 4).min(7)));
         let filled = 4 * (room / 4).min(7);
         assert!(rows[..filled] == all[..filled] && rows[filled..].iter().all(|&it| it == 9));
@@ -145,7 +145,7 @@ fn all_met(met: &Met) {
 #[test]
 fn lost_sectors() {
     let mut rng = Rng::from_env("lost sectors", 111);
-    all_met(&follow(&Plain, &mut rng, setting("CALLS", 4000)));
+    all_met(&follow(&Plain, &mut rng, setting("CALLS", 4000), any_usable));
 }
 
 #[test]
@@ -155,7 +155,7 @@ fn lost_sectors_at_each_width() {
         let mut met = Met::default();
         while met.calls < setting("CALLS", 7000) / 7 {
             let plan = Plan { version: 3, order, ..Plan::random_with(9, &mut rng) };
-            let made = drive::usable_of(plan, &mut rng);
+            let made = drive::usable_over(plan, &mut rng);
             follow_on(&Plain, &made, &mut rng, &mut met);
         }
         all_met(&met);
@@ -173,19 +173,19 @@ fn both_sides() {
 #[test]
 fn a_flush_that_is_left_out() {
     let made = sound();
-    let series = Series::start(&Plain, &made.bytes).expect("a sound image");
+    let series = Series::start(ALONE, &made.bytes).expect("a sound image");
     let (new, table, marked) = (write(67 * 512, 1), write(0, 1), write(65 * 512, 1));
     for (request, last) in [(new, 2), (table, 5), (marked, 1), (discard(64), 1)] {
-        let steps = steps(&Plain, &made.bytes, &request).expect("a list");
+        let steps = steps(ALONE, &made.bytes, &request).expect("a list");
         let (call, finished) = match request {
             Request::Write { offset, ref data, .. } => {
                 let mut image = made.bytes.clone();
-                plain::write(&mut image, offset, data, ALL);
+                ALONE.write(&mut image, offset, data, ALL);
                 (Call::Write { offset, data }, image)
             }
             _ => {
                 let mut image = made.bytes.clone();
-                plain::discard(&mut image, 64, ALL);
+                ALONE.discard(&mut image, 64, ALL);
                 (Call::Discard { cluster: 64 }, image)
             }
         };

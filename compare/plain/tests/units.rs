@@ -7,16 +7,18 @@ use made::image::USED;
 use made::plan::bench_image;
 use made::requests::{Request, Requests};
 use made::rng::Rng;
-use plain::{write, Outcome};
+use plain::{Outcome, Over, Plain, ALONE};
 
 const ALL: u64 = u64::MAX;
 
-fn run(image: &mut [u8], request: &Request) -> Outcome {
+fn run(side: Over, image: &mut [u8], request: &Request) -> Outcome {
     match *request {
-        Request::Write { offset, ref data, allowance } => write(image, offset, data, allowance),
-        Request::Discard { cluster, allowance } => plain::discard(image, cluster, allowance),
+        Request::Write { offset, ref data, allowance } => {
+            side.write(image, offset, data, allowance)
+        }
+        Request::Discard { cluster, allowance } => side.discard(image, cluster, allowance),
         Request::Repair { scratch, allowance } => {
-            plain::repair(image, &mut vec![0; scratch], allowance)
+            side.repair(image, &mut vec![0; scratch], allowance)
         }
         _ => unreachable!("not a storing request"),
     }
@@ -38,16 +40,17 @@ fn prefixes() {
         if made.bytes.len() > 100_000 {
             continue;
         }
+        let side = made.over(&Plain);
         let request = Requests::new(&made).storing(&mut rng);
         let mut whole = made.bytes.clone();
-        let Outcome::Finished(units) = run(&mut whole, &with_allowance(&request, ALL)) else {
+        let Outcome::Finished(units) = run(side, &mut whole, &with_allowance(&request, ALL)) else {
             assert!(whole == made.bytes, "refused, but changed");
             continue;
         };
         let mut last = made.bytes.clone();
         for allowance in 0..=units.min(1100) {
             let mut image = made.bytes.clone();
-            let outcome = run(&mut image, &with_allowance(&request, allowance));
+            let outcome = run(side, &mut image, &with_allowance(&request, allowance));
             let stopped = Outcome::Stopped(allowance);
             let finished = Outcome::Finished(units);
             assert_eq!(outcome, if allowance < units { stopped } else { finished });
@@ -64,7 +67,7 @@ fn header_is_free() {
     let mut made = bench_image();
     made.set_count(0, 0);
     let mut image = made.bytes.clone();
-    assert_eq!(write(&mut image, 512, b"abc", ALL), Outcome::Finished(1028));
+    assert_eq!(ALONE.write(&mut image, 512, b"abc", ALL), Outcome::Finished(1028));
     // Cluster 0 is the L2 table, cluster 4 has the data.
     let mut table = vec![0; 512];
     table[8..16].copy_from_slice(&(USED | 2048).to_be_bytes());
@@ -80,7 +83,7 @@ fn block_is_free() {
     let mut made = bench_image();
     made.set_count(2, 0);
     let mut image = made.bytes.clone();
-    assert_eq!(write(&mut image, 0, b"abc", ALL), Outcome::Finished(1028));
+    assert_eq!(ALONE.write(&mut image, 0, b"abc", ALL), Outcome::Finished(1028));
     // Filled with zeros as the L2 table, then the count of cluster 4 and the
     // L2 entry for it, which lies on the counts of clusters 0 to 3.
     let mut block = vec![0; 512];
@@ -97,7 +100,7 @@ fn refcount_table_is_free() {
     let mut made = bench_image();
     made.set_count(1, 0);
     let mut image = made.bytes.clone();
-    assert_eq!(write(&mut image, 65_535, b"z", ALL), Outcome::Finished(1028));
+    assert_eq!(ALONE.write(&mut image, 65_535, b"z", ALL), Outcome::Finished(1028));
     assert_eq!(image[512..512 + 504], [0; 504]);
     assert_eq!(image[1016..1024], (USED | 2048).to_be_bytes());
     assert_eq!((image[1024 + 3], image[1024 + 9]), (1, 1));
@@ -111,10 +114,10 @@ fn entry_in_its_own_cluster() {
     let table = made.add_table(0).unwrap();
     made.put64(table, USED | table as u64 | 1);
     let mut image = made.bytes.clone();
-    assert_eq!(write(&mut image, 100, &[9; 3], 512), Outcome::Stopped(512));
+    assert_eq!(ALONE.write(&mut image, 100, &[9; 3], 512), Outcome::Stopped(512));
     assert_eq!(image[table..table + 8], [0; 8]);
     let mut image = made.bytes.clone();
-    assert_eq!(write(&mut image, 100, &[9; 3], ALL), Outcome::Finished(513));
+    assert_eq!(ALONE.write(&mut image, 100, &[9; 3], ALL), Outcome::Finished(513));
     assert_eq!(image[table..table + 8], (USED | table as u64).to_be_bytes());
     assert_eq!(image[table + 100..table + 104], [9, 9, 9, 0]);
 }
@@ -129,10 +132,10 @@ fn entry_on_the_counts() {
     // Counts 0x8000, 0, 0, 0x0A00 for clusters 4 to 7; as entry: cluster 5.
     made.put64(block + 8, USED | 5 << 9);
     let mut image = made.bytes.clone();
-    assert_eq!(plain::discard(&mut image, 1, ALL), Outcome::Refused(16));
+    assert_eq!(ALONE.discard(&mut image, 1, ALL), Outcome::Refused(16));
     // Cluster 7 in its place: its count is 0x0E00.
     made.put64(block + 8, USED | 7 << 9);
     let mut image = made.bytes.clone();
-    assert_eq!(plain::discard(&mut image, 1, ALL), Outcome::Finished(2));
+    assert_eq!(ALONE.discard(&mut image, 1, ALL), Outcome::Finished(2));
     assert_eq!(image[block + 8..block + 16], [0, 0, 0, 0, 0, 0, 0x0D, 0xFF]);
 }

@@ -6,12 +6,12 @@ use made::drive::{sound, without_snapshots};
 use made::image::{Made, AUTOCLEAR, USED};
 use made::plan::{bench_image, Plan};
 use made::rng::Rng;
-use plain::{check, difference, repair, translate, Found, Outcome, Verdict};
+use plain::{difference, Found, Outcome, Over, Plain, Verdict, ALONE};
 
 const IMAGES: usize = 600;
 
 fn verdict(made: &Made) -> Verdict {
-    check(&made.bytes, &mut vec![7; made.scratch()])
+    made.over(&Plain).check(&made.bytes, &mut vec![7; made.scratch()])
 }
 
 /// A cluster's references in the scratch.
@@ -27,7 +27,7 @@ fn made_images_are_sound() {
         let made = sound(&mut rng);
         partial += usize::from(!made.size.is_multiple_of(made.cluster() as u64));
         let mut scratch = vec![7; made.scratch() + 3];
-        assert_eq!(check(&made.bytes, &mut scratch), Verdict::Sound);
+        assert_eq!(made.over(&Plain).check(&made.bytes, &mut scratch), Verdict::Sound);
         for cluster in 0..made.clusters() {
             assert_eq!(u64::from(figure(&scratch, cluster)), made.count(cluster));
         }
@@ -55,6 +55,8 @@ fn leaks() {
     let mut rng = Rng::from_env("leaks", 12);
     for _ in 0..IMAGES {
         let mut made = sound(&mut rng);
+        let backing = made.backing.clone();
+        let side = Over { calls: &Plain, backing: &backing };
         let mut before = made.clone();
         if made.clearing() == 1 {
             before.put64(AUTOCLEAR, 0);
@@ -70,11 +72,11 @@ fn leaks() {
         let units = made.clearing() + leaks;
         let mut cut = made.clone();
         let scratch = &mut vec![7; made.scratch()];
-        assert_eq!(repair(&mut cut.bytes, scratch, units - 1), Outcome::Stopped(units - 1));
+        assert_eq!(side.repair(&mut cut.bytes, scratch, units - 1), Outcome::Stopped(units - 1));
         let last = raised[raised.len() - 1];
         assert_eq!(cut.count(last), made.count(last));
-        assert_eq!(repair(&mut cut.bytes, scratch, 1), Outcome::Finished(1));
-        assert_eq!(repair(&mut made.bytes, scratch, u64::MAX), Outcome::Finished(units));
+        assert_eq!(side.repair(&mut cut.bytes, scratch, 1), Outcome::Finished(1));
+        assert_eq!(side.repair(&mut made.bytes, scratch, u64::MAX), Outcome::Finished(units));
         for image in [&cut.bytes, &made.bytes] {
             assert!(*image == before);
         }
@@ -98,15 +100,24 @@ fn bad_entries() {
         let offset = (l1 * made.per_table() as u64 + l2) << made.cluster_bits;
         let number = if entry >> 62 & 1 == 1 { 13 } else { 12 };
         let number = if offset < made.size { number } else { 11 };
-        assert_eq!(translate(&made.bytes, offset), Found::Refused(number), "{entry:x}");
+        assert_eq!(
+            made.over(&Plain).translate(&made.bytes, offset),
+            Found::Refused(number),
+            "{entry:x}"
+        );
 
         let entry = bad_entry(&made, &mut rng, false);
         made.put64(made.l1_entry(l1_index), entry);
         assert_eq!(verdict(&made), Verdict::BadL1(l1), "{entry:x}");
         let number = if offset < made.size { 12 } else { 11 };
-        assert_eq!(translate(&made.bytes, offset), Found::Refused(number), "{entry:x}");
+        assert_eq!(
+            made.over(&Plain).translate(&made.bytes, offset),
+            Found::Refused(number),
+            "{entry:x}"
+        );
         let scratch = &mut vec![7; made.scratch()];
-        assert_eq!(repair(&mut made.bytes, scratch, 0), Outcome::Refused(17));
+        let image = &mut made.bytes.clone();
+        assert_eq!(made.over(&Plain).repair(image, scratch, 0), Outcome::Refused(17));
     }
 }
 
@@ -135,7 +146,7 @@ fn shared_and_short() {
         // A shared cluster comes before a short one, whatever their order.
         made.set_count(short, 0);
         let scratch = &mut vec![7; made.scratch()];
-        assert_eq!(check(&made.bytes, scratch), Verdict::Shared(shared as u64));
+        assert_eq!(ALONE.check(&made.bytes, scratch), Verdict::Shared(shared as u64));
         assert_eq!(figure(scratch, shared), 2);
     }
 }
@@ -152,19 +163,19 @@ fn figures() {
     }
     made.put64(made.l1_at, 1);
     let scratch = &mut [7; 34];
-    assert_eq!(check(&made.bytes, scratch), Verdict::BadL1(0));
+    assert_eq!(ALONE.check(&made.bytes, scratch), Verdict::BadL1(0));
     let figures: Vec<u16> = (0..17).map(|cluster| figure(scratch, cluster)).collect();
     assert_eq!(figures, [1, 1, 1, 1, 1, 0, 0, 0, 0, 4, 0, 0, 0, 0, 0, 0, 0x0707]);
     made.put64(made.l1_at, 0);
-    assert_eq!(check(&made.bytes, scratch), Verdict::BadL2(1, 1));
+    assert_eq!(ALONE.check(&made.bytes, scratch), Verdict::BadL2(1, 1));
     made.put64(table + 8, 0);
-    assert_eq!(check(&made.bytes, scratch), Verdict::Shared(9));
+    assert_eq!(ALONE.check(&made.bytes, scratch), Verdict::Shared(9));
     for l2_index in [2, 4, 63] {
         made.put64(table + 8 * l2_index, 0);
     }
-    assert_eq!(check(&made.bytes, scratch), Verdict::Short(9));
+    assert_eq!(ALONE.check(&made.bytes, scratch), Verdict::Short(9));
     made.put64(made.l1_at, USED | table as u64);
-    assert_eq!(check(&made.bytes, scratch), Verdict::Shared(4));
+    assert_eq!(ALONE.check(&made.bytes, scratch), Verdict::Shared(4));
     assert_eq!((figure(scratch, 4), figure(scratch, 9)), (2, 2));
 }
 

@@ -5,14 +5,14 @@ use made::full::{self, Layout, Shape};
 use made::image::{Made, USED};
 use made::plan::{bench_image, bench_image_of, MAX_ORDER};
 use made::widths;
-use plain::{check, difference, discard, repair, write, Outcome, Plain, Verdict};
+use plain::{difference, Outcome, Plain, Verdict, ALONE};
 
 const ALL: u64 = u64::MAX;
 /// Where the bench image has its block.
 const BLOCK: usize = 1024;
 
 fn verdict(made: &Made) -> Verdict {
-    check(&made.bytes, &mut vec![7; made.scratch()])
+    ALONE.check(&made.bytes, &mut vec![7; made.scratch()])
 }
 
 #[test]
@@ -42,7 +42,7 @@ fn numbers() {
 fn two_counts() {
     let cut = |order: u32, allowance: u64| {
         let mut image = bench_image_of(order).bytes;
-        let outcome = write(&mut image, 33_285, b"hello", allowance);
+        let outcome = ALONE.write(&mut image, 33_285, b"hello", allowance);
         let units = allowance.min(1028);
         let stopped = allowance < 1028;
         let wanted = if stopped { Outcome::Stopped(units) } else { Outcome::Finished(units) };
@@ -81,10 +81,10 @@ fn neighbours_as_they_stand() {
         // A neighbour of cluster 4, in its byte.
         made.set_count(5, 1);
         let mut image = made.bytes.clone();
-        assert_eq!(write(&mut image, 5 * 512, b"x", 1), Outcome::Stopped(1));
+        assert_eq!(ALONE.write(&mut image, 5 * 512, b"x", 1), Outcome::Stopped(1));
         let kept = if order == 0 { 0x20 } else { 0 };
         assert_eq!(image[BLOCK], first | kept, "order {order}");
-        assert_eq!(write(&mut made.bytes, 5 * 512, b"x", ALL), Outcome::Finished(1028));
+        assert_eq!(ALONE.write(&mut made.bytes, 5 * 512, b"x", ALL), Outcome::Finished(1028));
         let mut block = [0; 512];
         block[at] = byte;
         block[40..48].copy_from_slice(&(USED | 4 << 9).to_be_bytes());
@@ -101,7 +101,7 @@ fn entry_on_the_counts() {
     // Byte 6 is 0x1A: the counts 10 and 1 of clusters 12 and 13.
     made.put64(BLOCK, USED | 13 << 9);
     assert_eq!((made.count(12), made.count(13)), (10, 1));
-    assert_eq!(discard(&mut made.bytes, 0, ALL), Outcome::Finished(2));
+    assert_eq!(ALONE.discard(&mut made.bytes, 0, ALL), Outcome::Finished(2));
     assert_eq!(made.bytes[BLOCK..BLOCK + 8], [0; 8]);
 }
 
@@ -109,19 +109,19 @@ fn entry_on_the_counts() {
 fn discards() {
     for order in 0..=MAX_ORDER {
         let mut made = bench_image_of(order);
-        assert_eq!(write(&mut made.bytes, 0, b"x", ALL), Outcome::Finished(1028));
+        assert_eq!(ALONE.write(&mut made.bytes, 0, b"x", ALL), Outcome::Finished(1028));
         (6..16).for_each(|cluster| made.set_count(cluster, made.most()));
         for count in [made.most(), 1] {
             let mut made = made.clone();
             made.set_count(5, count);
-            assert_eq!(discard(&mut made.bytes, 0, ALL), Outcome::Finished(2));
+            assert_eq!(ALONE.discard(&mut made.bytes, 0, ALL), Outcome::Finished(2));
             let counts: Vec<u64> = (0..16).map(|cluster| made.count(cluster)).collect();
             assert_eq!(counts[..5], [1; 5]);
             assert_eq!(counts[5], count - 1);
             assert!(counts[6..].iter().all(|&count| count == made.most()));
         }
         made.set_count(5, 0);
-        assert_eq!(discard(&mut made.bytes, 0, ALL), Outcome::Refused(16));
+        assert_eq!(ALONE.discard(&mut made.bytes, 0, ALL), Outcome::Refused(16));
     }
 }
 
@@ -140,7 +140,7 @@ fn leaks() {
             let mut made = sound.clone();
             made.set_count(cluster, count);
             assert_eq!(verdict(&made), Verdict::Leaks(1), "{count} of {cluster}");
-            let outcome = repair(&mut made.bytes, &mut [7; 32], ALL);
+            let outcome = ALONE.repair(&mut made.bytes, &mut [7; 32], ALL);
             assert_eq!(outcome, Outcome::Finished(1));
             assert!(made.bytes == sound.bytes);
         }
@@ -181,9 +181,9 @@ fn two_free() {
         for (k, &free) in spare.iter().enumerate().step_by(13) {
             let other = spare[(k + 1 + k % 5 * 200) % spare.len()];
             made.set_count(free, 0);
-            assert_eq!(write(&mut made.bytes, 0, b"x", ALL), Outcome::Refused(14));
+            assert_eq!(ALONE.write(&mut made.bytes, 0, b"x", ALL), Outcome::Refused(14));
             made.set_count(other, 0);
-            assert_eq!(write(&mut made.bytes, 0, b"x", 514), Outcome::Stopped(514));
+            assert_eq!(ALONE.write(&mut made.bytes, 0, b"x", 514), Outcome::Stopped(514));
             let table = made.bytes[free.min(other) << 9..][..512].iter().all(|&byte| byte == 0);
             assert!(table && made.count(free) == 1 && made.count(other) == 1);
             [free, other].iter().for_each(|&cluster| made.set_count(cluster, most));
@@ -200,13 +200,13 @@ fn short_and_shared() {
         assert_eq!(verdict(&made), Verdict::Short(3));
         made.set_count(1, 0);
         assert_eq!(verdict(&made), Verdict::Short(1));
-        assert_eq!(repair(&mut made.bytes, &mut [7; 32], ALL), Outcome::Refused(17));
+        assert_eq!(ALONE.repair(&mut made.bytes, &mut [7; 32], ALL), Outcome::Refused(17));
         // An L1 entry that names the L1 table, and is its own L2 entry: three
         // references, whatever the count.
         made.put64(made.l1_at, USED | made.l1_at as u64);
         made.set_count(3, made.most());
         let mut scratch = [7; 32];
-        assert_eq!(check(&made.bytes, &mut scratch), Verdict::Shared(3));
+        assert_eq!(ALONE.check(&made.bytes, &mut scratch), Verdict::Shared(3));
         assert_eq!(scratch[6..8], [0, 3]);
     }
 }

@@ -1,6 +1,7 @@
 -- The bench image's table, joined: `quick` stores a fill in one pass and leaves the same image.
 -- Assumes nothing.
 use Prim.Native.Nat.{ℕ, zero, suc, _*_}
+use native.Mathlib.Nat.{zero-lt-suc}
 use mathlib.Core.Bool.{true}
 use mathlib.Core.Path.{_≡_, refl, subst, fun-ext}
 use mathlib.Core.List.{List, [], _∷_}
@@ -57,9 +58,9 @@ bench-bytes : all (λ b. ltb b 256) bench ≡ true
 unfolding computing
 bench-bytes = refl
 
-bench-healthy : Healthy (check bench (2 * clusters bench))
+bench-healthy : Healthy (check [] bench (2 * clusters bench))
 unfolding computing check Healthy
 bench-healthy = tt
 
-pub bench-series : (calls : List Call) → AllBytes calls → Agrees bench bench (guestByte bench 0) × Holds bench bench (guestByte bench 0) calls
-bench-series calls sm = demand3 bench (λ i. ltb-true (getD bench i 0) 256 (each-byte bench bench-bytes i)) bench-healthy calls sm
+pub bench-series : (calls : List Call) → AllBytes calls → Agrees [] bench bench (guestByte [] bench 0) × Holds [] bench bench (guestByte [] bench 0) calls
+bench-series calls sm = demand3 [] bench (λ i. zero-lt-suc 255) (λ i. ltb-true (getD bench i 0) 256 (each-byte bench bench-bytes i)) bench-healthy calls sm

@@ -53,32 +53,32 @@ abbrev pub with-bytes : ℕ → List ℕ → List ℕ
 with-bytes at bs = sets shots at bs
 
 pub record Shots : Type 0 where
-  pub accepted : judge shots ≡ 0
+  pub accepted : judge [] shots ≡ 0
   pub sound : verdict shots ≡ Sound
   pub counted : figuresOf shots ≡ 1 ∷ 1 ∷ 1 ∷ 1 ∷ 1 ∷ 1 ∷ 2 ∷ 3 ∷ 1 ∷ 1 ∷ 1 ∷ 1 ∷ 0 ∷ 0 ∷ []
   -- what is shared is not stored through, be it a zero mark below a shared table
-  pub table-kept : planNumber (writePlan shots 0 (1 ∷ [])) ≡ 22
-  pub mark-kept : planNumber (discardPlan shots 5) ≡ 22
-  pub own-written : cost (writePlan shots 33280 (1 ∷ [])) ≡ 1
-  pub own-freed : cost (discardPlan shots 65) ≡ 2
-  pub own-new : cost (writePlan shots 33792 (1 ∷ [])) ≡ 514
+  pub table-kept : planNumber (writePlan [] shots 0 (1 ∷ [])) ≡ 22
+  pub mark-kept : planNumber (discardPlan [] shots 5) ≡ 22
+  pub own-written : cost (writePlan [] shots 33280 (1 ∷ [])) ≡ 1
+  pub own-freed : cost (discardPlan [] shots 65) ≡ 2
+  pub own-new : cost (writePlan [] shots 33792 (1 ∷ [])) ≡ 514
   -- snapshots are read
-  pub reads-0 : guestBytes shots 1 0 4 ≡ 70 ∷ 71 ∷ 72 ∷ 73 ∷ []
-  pub reads-1 : guestBytes shots 2 1536 3 ≡ 70 ∷ 71 ∷ 72 ∷ []
-  pub reach-1 : readNumber shots 2 32766 2 ≡ 0
-  pub past-1 : readNumber shots 2 32767 2 ≡ 11
-  pub past-0 : readNumber shots 1 65536 1 ≡ 11
-  pub none-2 : readNumber shots 3 0 0 ≡ 11
+  pub reads-0 : guestBytes [] shots 1 0 4 ≡ 70 ∷ 71 ∷ 72 ∷ 73 ∷ []
+  pub reads-1 : guestBytes [] shots 2 1536 3 ≡ 70 ∷ 71 ∷ 72 ∷ []
+  pub reach-1 : readNumber [] shots 2 32766 2 ≡ 0
+  pub past-1 : readNumber [] shots 2 32767 2 ≡ 11
+  pub past-0 : readNumber [] shots 1 65536 1 ≡ 11
+  pub none-2 : readNumber [] shots 3 0 0 ≡ 11
 
 pub record Wrong : Type 0 where
-  pub many : judge (with-bytes 60 (bytes32 65)) ≡ 6
-  pub askew : judge (with-bytes 60 (bytes32 1 ++ bytes64 2112)) ≡ 21
-  pub past : judge (with-bytes 2084 (bytes32 8000)) ≡ 21
-  pub past-last : judge (with-bytes 2148 (bytes32 8000)) ≡ 21
-  pub l1-past : judge (with-bytes 2056 (bytes32 577)) ≡ 21
-  pub l1-to-end : judge (with-bytes 2056 (bytes32 576)) ≡ 0
-  pub rows : judge (with-bytes 2056 (bytes32 65537)) ≡ 21
-  pub place : judge (with-bytes 2048 (bytes64 2568)) ≡ 21
+  pub many : judge [] (with-bytes 60 (bytes32 65)) ≡ 6
+  pub askew : judge [] (with-bytes 60 (bytes32 1 ++ bytes64 2112)) ≡ 21
+  pub past : judge [] (with-bytes 2084 (bytes32 8000)) ≡ 21
+  pub past-last : judge [] (with-bytes 2148 (bytes32 8000)) ≡ 21
+  pub l1-past : judge [] (with-bytes 2056 (bytes32 577)) ≡ 21
+  pub l1-to-end : judge [] (with-bytes 2056 (bytes32 576)) ≡ 0
+  pub rows : judge [] (with-bytes 2056 (bytes32 65537)) ≡ 21
+  pub place : judge [] (with-bytes 2048 (bytes64 2568)) ≡ 21
   pub bad-snapshot : verdict (with-bytes 5656 (bytes64 2)) ≡ BadL2 2 0 3
   pub bad-l1 : verdict (with-bytes 2568 (bytes64 520)) ≡ BadL1 1 1
   pub shared-roles : verdict (with-bytes 5632 (own 8)) ≡ Shared 8
@@ -108,12 +108,12 @@ sixtyFourBits c =
 pub record Widths : Type 0 where
   pub two : verdict (twoBits 2) ≡ Sound
   pub two-leak : verdict (twoBits 3) ≡ Leaks 1
-  pub two-cost : cost (repairPlan (twoBits 3) 28) ≡ 1
-  pub two-mended : part (after (repairPlan (twoBits 3) 28) 1 (twoBits 3)) 1024 4 ≡ 85 ∷ 229 ∷ 85 ∷ 0 ∷ []
-  pub two-sound : verdict (after (repairPlan (twoBits 3) 28) 1 (twoBits 3)) ≡ Sound
+  pub two-cost : cost (repairPlan [] (twoBits 3) 28) ≡ 1
+  pub two-mended : part (after (repairPlan [] (twoBits 3) 28) 1 (twoBits 3)) 1024 4 ≡ 85 ∷ 229 ∷ 85 ∷ 0 ∷ []
+  pub two-sound : verdict (after (repairPlan [] (twoBits 3) 28) 1 (twoBits 3)) ≡ Sound
   -- one bit has no room for two references
   pub one-short : verdict (counts 0 (255 ∷ 15 ∷ [])) ≡ Short 6
   pub wide : verdict (sixtyFourBits 2) ≡ Sound
   pub wide-leak : verdict (sixtyFourBits (2 ^ 40)) ≡ Leaks 1
   pub wide-difference : difference (sixtyFourBits (2 ^ 40)) 6 ≡ pos 65535
-  pub wide-mended : be64 (after (repairPlan (sixtyFourBits (2 ^ 40)) 28) 1 (sixtyFourBits (2 ^ 40))) 1072 ≡ 2
+  pub wide-mended : be64 (after (repairPlan [] (sixtyFourBits (2 ^ 40)) 28) 1 (sixtyFourBits (2 ^ 40))) 1072 ≡ 2

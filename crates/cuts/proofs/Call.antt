@@ -3,7 +3,7 @@ use mathlib.Core.Path.{_≡_, refl, sym, ap, _∙_}
 use mathlib.Core.Logic.{_⊎_, inl, inr, _≢_}
 use mathlib.Core.List.{List, [], _∷_}
 use Prim.Native.Nat.{ℕ, zero, suc, _+_, _-_, _*_, _/_, _%_, _^_, _≤_, _<_}
-use native.Mathlib.Nat.{div-lt-iff-lt-mul, mod-lt, zero-lt-suc, mul-le-mul-right}
+use native.Mathlib.Nat.{suc-ne-zero, div-lt-iff-lt-mul, mod-lt, mul-le-mul-right}
 use native.Mathlib.Decide.{ℕ-discrete}
 use native.Mathlib.Omega.{arith}
 use lib.ListN.{length, set}
@@ -12,7 +12,7 @@ use lib.Pow.{pow-lt}
 use Rattle.cuts.proofs.Refs.{hit, hit-self, hit-zero, refs-fix, free-fix, free-tab, tab-fix, tab-dat}
 use Rattle.cuts.proofs.Cell.{enc, length-enc, small-enc, recell, length-recell, small-recell, cell-small, Small, Stored, stored, mem}
 use Rattle.cuts.proofs.Meta.{Geo, GeoOk, Codec, cell-in, rt, blk, cnt, row, col, fix, tab, dat, refsOf, Sound, Keep, dat-none, keep-sound, blk-0, blk-l1, fix-blk, fix-l1}
-use Rattle.cuts.proofs.Step.{shown, gread, gread-none, Quiet, tab-in, dat-in, fix-one, free-not-0, quiet-sound, free-step, count-step, entry-rt, entry-blk, entry-cnt, entry-dat-new, entry-refs, entry-sound, entry-reads, entry-read}
+use Rattle.cuts.proofs.Step.{shown, gread, Quiet, tab-in, dat-in, fix-one, free-not-0, quiet-sound, free-step, count-step, entry-rt, entry-blk, entry-cnt, entry-refs, entry-sound, entry-reads, entry-read}
 use Rattle.cuts.proofs.Run.{Store, apply, Epoch, epoch-one}
 
 -- m0 is the first image: the header, but for its idle bytes, the refcount table and the snapshots' directory stay what they were there
@@ -35,9 +35,13 @@ pub small-sets : (vs l : List ℕ) (i : ℕ) → Small l → Small vs → Small 
 small-sets [] l i p q = p
 small-sets (v ∷ vs) l i p q = small-sets vs (set l i v) (suc i) (small-set l i v p (q zero)) (λ z. q (suc z))
 
-pub shown-none : (d f b : ℕ) → d ≡ 0 → shown d f b ≡ 0
+-- an entry with no place shows zeros where it has a mark, or where zeros lie underneath
+shown-dark : (d f b u : ℕ) → d ≡ 0 → (f ≢ 0) ⊎ (u ≡ 0) → shown d f b u ≡ 0
 unfolding shown
-shown-none d f b e = ap (λ (y : ℕ). shown y f b) e
+shown-dark d (suc f) b u e h = refl
+shown-dark (suc d) zero b u e h = absurd (suc-ne-zero d e)
+shown-dark zero zero b u e (inl h) = absurd (h refl)
+shown-dark zero zero b u e (inr h) = h
 
 module _ (g : Geo) where
   unfoldable pub countStore : (ℕ → ℕ → ℕ) → ℕ → ℕ → Store
@@ -54,9 +58,10 @@ module _ (g : Geo) (K : Codec) where
   unfoldable pub SameGuest : List ℕ → List ℕ → Type 0
   SameGuest img img′ = (i j x : ℕ) → i < g .L → j < g .E → x < g .C → gread g K (mem (g .C) img′) i j x ≡ gread g K (mem (g .C) img) i j x
 
-  pub record Zeroed (i j : ℕ) (img img′ : List ℕ) : Type 0 where
+  -- the guest cluster of i and j, under which the bytes u lie, reads as zeros
+  pub record Zeroed (u : ℕ → ℕ) (i j : ℕ) (img img′ : List ℕ) : Type 0 where
     pub other : (a b x : ℕ) → a < g .L → b < g .E → x < g .C → (a ≢ i) ⊎ (b ≢ j) → gread g K (mem (g .C) img′) a b x ≡ gread g K (mem (g .C) img) a b x
-    pub here : (x : ℕ) → x < g .C → gread g K (mem (g .C) img′) i j x ≡ 0
+    pub here : (x : ℕ) → x < g .C → gread g K (mem (g .C) img′) i j x (u x) ≡ 0
 
 module _ (g : Geo) (K : Codec) (ok : GeoOk g K) (m0 : ℕ → ℕ → ℕ) where
   -- cluster w is none of the directory's
@@ -184,7 +189,7 @@ module _ (g : Geo) (K : Codec) (ok : GeoOk g K) (m0 : ℕ → ℕ → ℕ) where
         cnts = entry-cnt g K ok m s m′ sm i j v l n t one gv lv st;
         moved = entry-refs g K ok m s m′ sm i j v l n t one gv lv st;
         reads = entry-reads g K ok m s m′ sm i j v l n t one gv lv st;
-        read = λ x h. rd x h new (ℕ-discrete (K .clus v) 0);
+        read = λ x h. entry-read g K ok m s m′ sm i j v l n t one gv lv st x h (other new (ℕ-discrete (K .clus v) 0));
       }
     where
       m : ℕ → ℕ → ℕ
@@ -214,17 +219,15 @@ module _ (g : Geo) (K : Codec) (ok : GeoOk g K) (m0 : ℕ → ℕ → ℕ) where
       st : Stored (g .C) m m′ w o (enc 8 v)
       st = next-stored img k w o (enc 8 v) wN fits (small-enc 8 v)
 
-      rd : (x : ℕ) → x < g .C → (K .clus v ≢ 0 → (refsOf g K m (K .clus v) ≡ 0) × (1 ≤ cnt g m (K .clus v))) ⊎ (K .clus v ≡ dat g K m i j) → Dec (K .clus v ≡ 0)
-          → gread g K m′ i j x ≡ shown (K .clus v) (K .flag v) (m (K .clus v) x)
-      rd x h f (yes z) = gread-none g K m′ i j x (entry-dat-new g K ok m s m′ sm i j v l n t one gv lv st ∙ z) ∙ sym (shown-none (K .clus v) (K .flag v) (m (K .clus v) x) z)
-      rd x h (inl f) (no d) = entry-read g K ok m s m′ sm i j v l n t one gv lv st x h (free-tab (g .L) (g .E) (fix g m) (tab g K m) (dat g K m) (K .clus v) (f d .0) d i l)
-      rd x h (inr e) (no d) = entry-read g K ok m s m′ sm i j v l n t one gv lv st x h
-          (λ y. tab-dat (g .L) (g .E) (fix g m) (tab g K m) (dat g K m) i i j l l n t one (sym y ∙ e))
+      other : (K .clus v ≢ 0 → (refsOf g K m (K .clus v) ≡ 0) × (1 ≤ cnt g m (K .clus v))) ⊎ (K .clus v ≡ dat g K m i j) → Dec (K .clus v ≡ 0) → K .clus v ≢ tab g K m i
+      other f (yes z) y = t (sym y ∙ z)
+      other (inl f) (no d) y = free-tab (g .L) (g .E) (fix g m) (tab g K m) (dat g K m) (K .clus v) (f d .0) d i l y
+      other (inr e) (no d) y = tab-dat (g .L) (g .E) (fix g m) (tab g K m) (dat g K m) i i j l l n t one (sym y ∙ e)
 
   -- ---- a discard
-  pub zeroed-then : (i j : ℕ) (img img′ img″ : List ℕ) → Zeroed g K i j img img′ → i < g .L → j < g .E
-      → ((a b x : ℕ) → a < g .L → b < g .E → x < g .C → gread g K (mem (g .C) img″) a b x ≡ gread g K (mem (g .C) img′) a b x) → Zeroed g K i j img img″
-  zeroed-then i j img img′ img″ z l n e = record { other = λ a b x p q h d. e a b x p q h ∙ z .other a b x p q h d; here = λ x h. e i j x l n h ∙ z .here x h }
+  pub zeroed-then : (u : ℕ → ℕ) (i j : ℕ) (img img′ img″ : List ℕ) → Zeroed g K u i j img img′ → i < g .L → j < g .E
+      → ((a b x : ℕ) → a < g .L → b < g .E → x < g .C → gread g K (mem (g .C) img″) a b x ≡ gread g K (mem (g .C) img′) a b x) → Zeroed g K u i j img img″
+  zeroed-then u i j img img′ img″ z l n e = record { other = λ a b x p q h d. e a b x p q h ∙ z .other a b x p q h d; here = λ x h. ap (λ (f : ℕ → ℕ). f (u x)) (e i j x l n h) ∙ z .here x h }
 
   pub cnt-small : (m : ℕ → ℕ → ℕ) (c : ℕ) → cnt g m c < 2 ^ g .W
   unfolding cnt
@@ -247,22 +250,23 @@ module _ (g : Geo) (K : Codec) (ok : GeoOk g K) (m0 : ℕ → ℕ → ℕ) where
       → CountSet img (apply (g .C) (countStore g (mem (g .C) img₀) c v) img) c v
   then-count img₀ img k c v l lv h e = rw (count-store-same (mem (g .C) img₀) (mem (g .C) img) c v (e (c / g .H) (in-blocks c l))) at (next-count img k c v l lv h)
 
-  abbrev pub MidZ : ℕ → ℕ → List ℕ → List ℕ → Type 0
-  MidZ i j img s = Ok g K m0 s × (SameGuest g K img s ⊎ Zeroed g K i j img s)
+  abbrev pub MidZ : (ℕ → ℕ) → ℕ → ℕ → List ℕ → List ℕ → Type 0
+  MidZ u i j img s = Ok g K m0 s × (SameGuest g K img s ⊎ Zeroed g K u i j img s)
 
-  abbrev pub EndZ : ℕ → ℕ → List ℕ → List ℕ → Type 0
-  EndZ i j img s = Ok g K m0 s × Zeroed g K i j img s
+  abbrev pub EndZ : (ℕ → ℕ) → ℕ → ℕ → List ℕ → List ℕ → Type 0
+  EndZ u i j img s = Ok g K m0 s × Zeroed g K u i j img s
 
-  module _ (img : List ℕ) (k : Ok g K m0 img) (i j : ℕ) (l : i < g .L) (n : j < g .E) where
-    -- place given: the entry becomes 0; after a flush the count falls by one
+  module _ (img : List ℕ) (k : Ok g K m0 img) (i j : ℕ) (l : i < g .L) (n : j < g .E)
+      (u : ℕ → ℕ) (e₀ : ℕ) (good : K .good2 e₀) (low : e₀ < 256 ^ 8) (bare : K .clus e₀ ≡ 0) (dark : (x : ℕ) → x < g .C → (K .flag e₀ ≢ 0) ⊎ (u x ≡ 0)) where
+    -- e₀ is an entry with no place that reads as zeros. Place given: the entry becomes e₀; after a flush the count falls by one
     pub discard-run : dat g K (mem (g .C) img) i j ≢ 0
         → refsOf g K (mem (g .C) img) (tab g K (mem (g .C) img) i) ≤ 1 → refsOf g K (mem (g .C) img) (dat g K (mem (g .C) img) i j) ≤ 1
-        → Epoch (g .C) (MidZ i j img) (entryStore g (tab g K (mem (g .C) img) i) j 0 ∷ []) img
-        (λ s. Epoch (g .C) (MidZ i j img) (countStore g (mem (g .C) img) (dat g K (mem (g .C) img) i j) (cnt g (mem (g .C) img) (dat g K (mem (g .C) img) i j) - 1) ∷ []) s (EndZ i j img))
+        → Epoch (g .C) (MidZ u i j img) (entryStore g (tab g K (mem (g .C) img) i) j e₀ ∷ []) img
+        (λ s. Epoch (g .C) (MidZ u i j img) (countStore g (mem (g .C) img) (dat g K (mem (g .C) img) i j) (cnt g (mem (g .C) img) (dat g K (mem (g .C) img) i j) - 1) ∷ []) s (EndZ u i j img))
     unfolding SameGuest
     discard-run d one alone =
-        epoch-one (g .C) (MidZ i j img) _ img (λ s. Epoch (g .C) (MidZ i j img) (countStore g m c v ∷ []) s (EndZ i j img)) (k, inl (λ a b x p q h. refl)) (e .fine, inr z₁)
-        (epoch-one (g .C) (MidZ i j img) _ img₁ (EndZ i j img) (e .fine, inr z₁) (c₂ .fine, inr z₂) (c₂ .fine, z₂))
+        epoch-one (g .C) (MidZ u i j img) _ img (λ s. Epoch (g .C) (MidZ u i j img) (countStore g m c v ∷ []) s (EndZ u i j img)) (k, inl (λ a b x p q h. refl)) (e .fine, inr z₁)
+        (epoch-one (g .C) (MidZ u i j img) _ img₁ (EndZ u i j img) (e .fine, inr z₁) (c₂ .fine, inr z₂) (c₂ .fine, z₂))
       where
         m : ℕ → ℕ → ℕ
         m = mem (g .C) img
@@ -277,13 +281,13 @@ module _ (g : Geo) (K : Codec) (ok : GeoOk g K) (m0 : ℕ → ℕ → ℕ) where
         t z = d (dat-none g K m i j z)
 
         img₁ : List ℕ
-        img₁ = apply (g .C) (entryStore g (tab g K m i) j 0) img
+        img₁ = apply (g .C) (entryStore g (tab g K m i) j e₀) img
 
-        e : Entered img img₁ i j 0
-        e = next-entry img k i j 0 l n t one (λ z. alone) (ok .laws .zero-good2) (zero-lt-suc _) (λ f. absurd (f (ok .laws .zero-clus))) (inl (λ f. absurd (f (ok .laws .zero-clus))))
+        e : Entered img img₁ i j e₀
+        e = next-entry img k i j e₀ l n t one (λ z. alone) good low (λ f. absurd (f bare)) (inl (λ f. absurd (f bare)))
 
-        z₁ : Zeroed g K i j img img₁
-        z₁ = record { other = e .reads; here = λ x h. e .read x h ∙ shown-none (K .clus 0) (K .flag 0) (m (K .clus 0) x) (ok .laws .zero-clus) }
+        z₁ : Zeroed g K u i j img img₁
+        z₁ = record { other = e .reads; here = λ x h. ap (λ (f : ℕ → ℕ). f (u x)) (e .read x h) ∙ shown-dark (K .clus e₀) (K .flag e₀) (m (K .clus e₀) x) (u x) bare (dark x h) }
 
         img₂ : List ℕ
         img₂ = apply (g .C) (countStore g m c v) img₁
@@ -293,25 +297,25 @@ module _ (g : Geo) (K : Codec) (ok : GeoOk g K) (m0 : ℕ → ℕ → ℕ) where
 
         c₂ : CountSet img₁ img₂ c v
         c₂ = then-count img img₁ (e .fine) c v cN (omega (arith, cnt-small m c))
-            (omega (arith, e .moved c, hit-self c d, ap (hit c) (ok .laws .zero-clus), hit-zero c, alone, k .sound .inv .covered c cN)) (e .blks)
+            (omega (arith, e .moved c, hit-self c d, ap (hit c) bare, hit-zero c, alone, k .sound .inv .covered c cN)) (e .blks)
 
-        z₂ : Zeroed g K i j img img₂
-        z₂ = zeroed-then i j img img₁ img₂ z₁ l n (c₂ .reads)
+        z₂ : Zeroed g K u i j img img₂
+        z₂ = zeroed-then u i j img img₁ img₂ z₁ l n (c₂ .reads)
 
-    -- a zero mark with no place
+    -- no place given: the entry becomes e₀
     pub unmark-run : tab g K (mem (g .C) img) i ≢ 0 → dat g K (mem (g .C) img) i j ≡ 0 → refsOf g K (mem (g .C) img) (tab g K (mem (g .C) img) i) ≤ 1
-        → Epoch (g .C) (MidZ i j img) (entryStore g (tab g K (mem (g .C) img) i) j 0 ∷ []) img (EndZ i j img)
+        → Epoch (g .C) (MidZ u i j img) (entryStore g (tab g K (mem (g .C) img) i) j e₀ ∷ []) img (EndZ u i j img)
     unfolding SameGuest
-    unmark-run t d one = epoch-one (g .C) (MidZ i j img) _ img (EndZ i j img) (k, inl (λ a b x p q h. refl)) (e .fine, inr z₁) (e .fine, z₁)
+    unmark-run t d one = epoch-one (g .C) (MidZ u i j img) _ img (EndZ u i j img) (k, inl (λ a b x p q h. refl)) (e .fine, inr z₁) (e .fine, z₁)
       where
         m : ℕ → ℕ → ℕ
         m = mem (g .C) img
 
         img₁ : List ℕ
-        img₁ = apply (g .C) (entryStore g (tab g K m i) j 0) img
+        img₁ = apply (g .C) (entryStore g (tab g K m i) j e₀) img
 
-        e : Entered img img₁ i j 0
-        e = next-entry img k i j 0 l n t one (λ z. absurd (z d)) (ok .laws .zero-good2) (zero-lt-suc _) (λ f. absurd (f (ok .laws .zero-clus))) (inl (λ f. absurd (f (ok .laws .zero-clus))))
+        e : Entered img img₁ i j e₀
+        e = next-entry img k i j e₀ l n t one (λ z. absurd (z d)) good low (λ f. absurd (f bare)) (inl (λ f. absurd (f bare)))
 
-        z₁ : Zeroed g K i j img img₁
-        z₁ = record { other = e .reads; here = λ x h. e .read x h ∙ shown-none (K .clus 0) (K .flag 0) (m (K .clus 0) x) (ok .laws .zero-clus) }
+        z₁ : Zeroed g K u i j img img₁
+        z₁ = record { other = e .reads; here = λ x h. ap (λ (f : ℕ → ℕ). f (u x)) (e .read x h) ∙ shown-dark (K .clus e₀) (K .flag e₀) (m (K .clus e₀) x) (u x) bare (dark x h) }

@@ -48,6 +48,7 @@ pub record Laws (N : ℕ) (K : Codec) : Type 0 where
   pub mk-good2 : (t : ℕ) → t < N → t ≢ 0 → K .good2 (K .mk t)
   pub mk-lt : (t : ℕ) → t < N → K .mk t < 256 ^ 8
   pub zero-clus : K .clus 0 ≡ 0
+  pub zero-flag : K .flag 0 ≡ 0
   pub zero-good1 : K .good1 0
   pub zero-good2 : K .good2 0
 
@@ -164,6 +165,11 @@ module _ (g : Geo) (K : Codec) where
   unfolding l2 under
   dat m i j = under (tab m i) (K .clus (l2 g m (tab m i) j))
 
+  -- the zero mark of that entry; none where there is no table
+  unfoldable pub mark : (ℕ → ℕ → ℕ) → ℕ → ℕ → ℕ
+  unfolding l2 under
+  mark m i j = under (tab m i) (K .flag (l2 g m (tab m i) j))
+
   abbrev pub refsOf : (ℕ → ℕ → ℕ) → ℕ → ℕ
   refsOf m = refs (g .L) (g .E) (fix g m) (tab m) (dat m)
 
@@ -192,6 +198,14 @@ module _ (g : Geo) (K : Codec) (m : ℕ → ℕ → ℕ) where
   unfolding dat
   dat-some i j d = under-some (tab g K m i) (K .clus (l2 g m (tab g K m i) j)) d
 
+  pub mark-none : (i j : ℕ) → tab g K m i ≡ 0 → mark g K m i j ≡ 0
+  unfolding mark under
+  mark-none i j e = ap (λ (t : ℕ). under t (K .flag (l2 g m (tab g K m i) j))) e
+
+  pub mark-some : (i j : ℕ) → tab g K m i ≢ 0 → mark g K m i j ≡ K .flag (l2 g m (tab g K m i) j)
+  unfolding mark
+  mark-some i j d = under-some (tab g K m i) (K .flag (l2 g m (tab g K m i) j)) d
+
 module _ (g : Geo) (K : Codec) (ok : GeoOk g K) (m m′ : ℕ → ℕ → ℕ) where
   pub keep-blk : Keep g K m m′ → (k : ℕ) → k < g .B → blk g m′ k ≡ blk g m k
   unfolding blk
@@ -214,6 +228,16 @@ module _ (g : Geo) (K : Codec) (ok : GeoOk g K) (m m′ : ℕ → ℕ → ℕ) w
       go : Dec (tab g K m i ≡ 0) → dat g K m′ i j ≡ dat g K m i j
       go (yes z) = dat-none g K m′ i j (t ∙ z) ∙ sym (dat-none g K m i j z)
       go (no d) = dat-some g K m′ i j (λ z. d (sym t ∙ z)) ∙ ap (K .clus) (ap (λ (x : ℕ). l2 g m′ x j) t ∙ e .l2s i j l k d) ∙ sym (dat-some g K m i j d)
+
+  pub keep-mark : Keep g K m m′ → (i j : ℕ) → i < g .L → j < g .E → mark g K m′ i j ≡ mark g K m i j
+  keep-mark e i j l k = go (ℕ-discrete (tab g K m i) 0)
+    where
+      t : tab g K m′ i ≡ tab g K m i
+      t = keep-tab e i l
+
+      go : Dec (tab g K m i ≡ 0) → mark g K m′ i j ≡ mark g K m i j
+      go (yes z) = mark-none g K m′ i j (t ∙ z) ∙ sym (mark-none g K m i j z)
+      go (no d) = mark-some g K m′ i j (λ z. d (sym t ∙ z)) ∙ ap (K .flag) (ap (λ (x : ℕ). l2 g m′ x j) t ∙ e .l2s i j l k d) ∙ sym (mark-some g K m i j d)
 
   pub keep-refs : Keep g K m m′ → (c : ℕ) → refsOf g K m′ c ≡ refsOf g K m c
   keep-refs e c =

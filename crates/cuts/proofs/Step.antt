@@ -2,49 +2,61 @@
 use mathlib.Core.Path.{_≡_, refl, sym, ap, ap₂, _∙_, fun-ext}
 use mathlib.Core.Logic.{_⊎_, inl, inr, _≢_}
 use Prim.Native.Nat.{ℕ, zero, suc, _+_, _-_, _*_, _/_, _%_, _^_, _≤_, _<_}
-use native.Mathlib.Nat.{div-lt-iff-lt-mul, mod-lt, mod-eq-of-lt, div-add-mod', mul-le-mul-left}
+use native.Mathlib.Nat.{suc-ne-zero, div-lt-iff-lt-mul, mod-lt, mod-eq-of-lt, div-add-mod', mul-le-mul-left}
 use native.Mathlib.Decide.{ℕ-discrete, decLt}
 use native.Mathlib.Omega.{arith}
 use lib.ListN.{length, getD}
 use Rattle.widths.specs.Width.{span}
 use Rattle.cuts.proofs.Refs.{hit, hit-self, hit-other, not-hit, refs, refs-same, refs-entry, refs-link, Inv, inv-same, inv-entry, inv-link, refs-fix, refs-dat, dat-fix, dat-tab, dat-dat, tab-fix, tab-tab, tab-dat, fix-tab, fix-dat, free-fix, free-tab, free-dat}
 use Rattle.cuts.proofs.Cell.{num, enc, length-enc, cell, recell, length-recell, cell-new, cell-other, Stored, stored-num, stored-cluster, stored-apart}
-use Rattle.cuts.proofs.Meta.{Geo, GeoOk, Codec, rt, blk, cnt, tree, row, col, Has, l1, l1-some, l1-none, l2, fix, tab, dat, refsOf, Right, Sound, Keep, dat-none, dat-some, keep-blk, keep-tab, keep-sound, Off, l2-off, rt-off, l1-off, cell-in, cnt-off, fix-0, fix-rt, fix-l1, fix-blk, blk-0, blk-rt, blk-l1, blk-blk, rt-0, l1-0, l1-rt, l1-l1, tree-in, row-in, row-N, same}
+use Rattle.cuts.proofs.Meta.{Geo, GeoOk, Codec, rt, blk, cnt, tree, row, col, Has, l1, l1-some, l1-none, l2, fix, tab, dat, mark, refsOf, Right, Sound, Keep, dat-none, dat-some, mark-none, mark-some, keep-blk, keep-tab, keep-sound, Off, l2-off, rt-off, l1-off, cell-in, cnt-off, fix-0, fix-rt, fix-l1, fix-blk, blk-0, blk-rt, blk-l1, blk-blk, rt-0, l1-0, l1-rt, l1-l1, tree-in, row-in, row-N, same}
 use Rattle.cuts.proofs.Sum.{sum-cong}
 
--- what the guest sees of the byte b, in cluster d, under a zero mark f
-unfoldable pub shown : ℕ → ℕ → ℕ → ℕ
-shown zero f b = 0
-shown (suc d) zero b = b
-shown (suc d) (suc f) b = 0
+-- what the guest sees of the byte b, in cluster d, under a zero mark f, where the byte u lies underneath
+unfoldable pub shown : ℕ → ℕ → ℕ → ℕ → ℕ
+shown d (suc f) b = λ u. 0
+shown zero zero b = λ u. u
+shown (suc d) zero b = λ u. b
+
+-- with no cluster its byte is none
+pub shown-same : (d f b b′ : ℕ) → (d ≢ 0 → b ≡ b′) → shown d f b ≡ shown d f b′
+unfolding shown
+shown-same d (suc f) b b′ h = refl
+shown-same zero zero b b′ h = refl
+shown-same (suc d) zero b b′ h = λ q u. h (suc-ne-zero d) q
 
 module _ (g : Geo) (K : Codec) where
-  -- the guest's byte at offset x of the cluster that L1 entry i and L2 entry j stand for
-  unfoldable pub gread : (ℕ → ℕ → ℕ) → ℕ → ℕ → ℕ → ℕ
+  -- the guest's byte at offset x of the cluster that L1 entry i and L2 entry j stand for, by the byte that lies underneath
+  unfoldable pub gread : (ℕ → ℕ → ℕ) → ℕ → ℕ → ℕ → ℕ → ℕ
   unfolding shown
-  gread m i j x = shown (dat g K m i j) (K .flag (l2 g m (tab g K m i) j)) (m (dat g K m i j) x)
+  gread m i j x = shown (dat g K m i j) (mark g K m i j) (m (dat g K m i j) x)
 
-  pub gread-none : (m : ℕ → ℕ → ℕ) (i j x : ℕ) → dat g K m i j ≡ 0 → gread m i j x ≡ 0
+  pub gread-none : (m : ℕ → ℕ → ℕ) (i j x : ℕ) → dat g K m i j ≡ 0 → mark g K m i j ≡ 0 → gread m i j x ≡ (λ u. u)
   unfolding gread shown
-  gread-none m i j x e = ap (λ (d : ℕ). shown d (K .flag (l2 g m (tab g K m i) j)) (m (dat g K m i j) x)) e
+  gread-none m i j x e f = ap₂ (λ (d v : ℕ). shown d v (m (dat g K m i j) x)) e f
+
+  pub gread-absent : (m : ℕ → ℕ → ℕ) (i j x : ℕ) → tab g K m i ≡ 0 → gread m i j x ≡ (λ u. u)
+  gread-absent m i j x z = gread-none m i j x (dat-none g K m i j z) (mark-none g K m i j z)
 
 module _ (g : Geo) (K : Codec) (ok : GeoOk g K) (m m′ : ℕ → ℕ → ℕ) where
   -- the guest's byte is kept where the entry is, and the data cluster's byte
   pub gread-same : (i j x : ℕ) → tab g K m′ i ≡ tab g K m i → (tab g K m i ≢ 0 → l2 g m′ (tab g K m i) j ≡ l2 g m (tab g K m i) j)
       → (dat g K m i j ≢ 0 → m′ (dat g K m i j) x ≡ m (dat g K m i j) x) → gread g K m′ i j x ≡ gread g K m i j x
   unfolding gread
-  gread-same i j x t e b = go (ℕ-discrete (tab g K m i) 0) (ℕ-discrete (dat g K m i j) 0)
+  gread-same i j x t e b = go (ℕ-discrete (tab g K m i) 0)
     where
-      go : Dec (tab g K m i ≡ 0) → Dec (dat g K m i j ≡ 0) → gread g K m′ i j x ≡ gread g K m i j x
-      go (yes z) d = gread-none g K m′ i j x (dat-none g K m′ i j (t ∙ z)) ∙ sym (gread-none g K m i j x (dat-none g K m i j z))
-      go (no n) d = fin d
+      go : Dec (tab g K m i ≡ 0) → gread g K m′ i j x ≡ gread g K m i j x
+      go (yes z) = gread-absent g K m′ i j x (t ∙ z) ∙ sym (gread-absent g K m i j x z)
+      go (no n) = rw (same-dat, same-mark) (shown-same (dat g K m i j) (mark g K m i j) _ _ b)
         where
-          same-dat : dat g K m′ i j ≡ dat g K m i j
-          same-dat = dat-some g K m′ i j (λ z. n (sym t ∙ z)) ∙ ap (K .clus) (ap (λ (y : ℕ). l2 g m′ y j) t ∙ e n) ∙ sym (dat-some g K m i j n)
+          same-entry : l2 g m′ (tab g K m′ i) j ≡ l2 g m (tab g K m i) j
+          same-entry = ap (λ (y : ℕ). l2 g m′ y j) t ∙ e n
 
-          fin : Dec (dat g K m i j ≡ 0) → gread g K m′ i j x ≡ gread g K m i j x
-          fin (yes z) = gread-none g K m′ i j x (same-dat ∙ z) ∙ sym (gread-none g K m i j x z)
-          fin (no q) = rw (same-dat, t, e n, b q)
+          same-dat : dat g K m′ i j ≡ dat g K m i j
+          same-dat = dat-some g K m′ i j (λ z. n (sym t ∙ z)) ∙ ap (K .clus) same-entry ∙ sym (dat-some g K m i j n)
+
+          same-mark : mark g K m′ i j ≡ mark g K m i j
+          same-mark = mark-some g K m′ i j (λ z. n (sym t ∙ z)) ∙ ap (K .flag) same-entry ∙ sym (mark-some g K m i j n)
 
   pub gread-keep : Keep g K m m′ → (i j x : ℕ) → i < g .L → j < g .E → (dat g K m i j ≢ 0 → m′ (dat g K m i j) x ≡ m (dat g K m i j) x)
       → gread g K m′ i j x ≡ gread g K m i j x
@@ -305,6 +317,9 @@ module _ (g : Geo) (K : Codec) (ok : GeoOk g K) (m : ℕ → ℕ → ℕ) (s : S
       pub entry-dat-new : dat g K m′ i j ≡ K .clus v
       entry-dat-new = dat-some g K m′ i j (λ z. t (sym (entry-tab i l) ∙ z)) ∙ ap (K .clus) (ap (λ (y : ℕ). l2 g m′ y j) (entry-tab i l) ∙ entry-new)
 
+      entry-mark-new : mark g K m′ i j ≡ K .flag v
+      entry-mark-new = mark-some g K m′ i j (λ z. t (sym (entry-tab i l) ∙ z)) ∙ ap (K .flag) (ap (λ (y : ℕ). l2 g m′ y j) (entry-tab i l) ∙ entry-new)
+
       -- the old place loses a reference and the new one gets one
       pub entry-refs : (c : ℕ) → refsOf g K m′ c + hit c (dat g K m i j) ≡ refsOf g K m c + hit c (K .clus v)
       entry-refs c =
@@ -406,7 +421,7 @@ module _ (g : Geo) (K : Codec) (ok : GeoOk g K) (m : ℕ → ℕ → ℕ) (s : S
 
       pub entry-read : (x : ℕ) → x < g .C → K .clus v ≢ tab g K m i → gread g K m′ i j x ≡ shown (K .clus v) (K .flag v) (m (K .clus v) x)
       unfolding gread
-      entry-read x h d = rw (entry-dat-new, entry-tab i l, entry-new, st .cluster (K .clus v) x h d)
+      entry-read x h d = rw (entry-dat-new, entry-mark-new, st .cluster (K .clus v) x h d)
 
     -- one L1 entry, from none to the table t
     module _ (i j t : ℕ) (l : i < g .L) (hi : Has g i) (k : j < g .E) (z : tab g K m i ≡ 0) (tN : t < g .N) (free : refsOf g K m t ≡ 0)
@@ -589,11 +604,16 @@ module _ (g : Geo) (K : Codec) (ok : GeoOk g K) (m : ℕ → ℕ → ℕ) (s : S
           (λ n. st .cluster (dat g K m a b) x h
           (λ e. fix-dat (g .L) (g .E) (fix g m) (tab g K m) (dat g K m) (row g i) a b p q at-not-0 at-alone at-fix (sym e)))
 
-      -- in the new table the guest reads zeros, but through entry j
-      pub link-zeros : (b x : ℕ) → b < g .E → K .clus (l2 g m t b) ≡ 0 → gread g K m′ i b x ≡ 0
-      link-zeros b x q e = gread-none g K m′ i b x (link-dat-new b q ∙ e)
+      link-mark-new : (b : ℕ) → b < g .E → mark g K m′ i b ≡ K .flag (l2 g m t b)
+      link-mark-new b q =
+          mark-some g K m′ i b (λ y. t-not-0 (sym link-tab-new ∙ y)) ∙ ap (λ (y : ℕ). K .flag (l2 g m′ y b)) link-tab-new ∙ ap (K .flag) (link-l2-new b q)
+
+      -- through the new table the guest reads what lies underneath, but through entry j
+      pub link-zeros : (b x : ℕ) → b < g .E → l2 g m t b ≡ 0 → gread g K m′ i b x ≡ (λ u. u)
+      link-zeros b x q e =
+          gread-none g K m′ i b x (link-dat-new b q ∙ ap (K .clus) e ∙ ok .laws .zero-clus) (link-mark-new b q ∙ ap (K .flag) e ∙ ok .laws .zero-flag)
 
       pub link-read : (x : ℕ) → x < g .C → K .clus (l2 g m t j) ≢ row g i
           → gread g K m′ i j x ≡ shown (K .clus (l2 g m t j)) (K .flag (l2 g m t j)) (m (K .clus (l2 g m t j)) x)
       unfolding gread
-      link-read x h d = rw (link-dat-new j k, link-tab-new, link-l2-new j k, st .cluster (K .clus (l2 g m t j)) x h d)
+      link-read x h d = rw (link-dat-new j k, link-mark-new j k, st .cluster (K .clus (l2 g m t j)) x h d)

@@ -10,8 +10,8 @@ use lib.ListN.{length, getD}
 use lib.Seq.{sets}
 use Rattle.cuts.proofs.Refs.{refs-fix, dat-fix}
 use Rattle.cuts.proofs.Cell.{num, enc, length-enc, small-enc, Small, Stored, mem}
-use Rattle.cuts.proofs.Meta.{Geo, GeoOk, Codec, cnt, row, col, Has, l2, fix, tab, dat, refsOf, Sound, Keep, dat-none, keep-blk, keep-tab, keep-dat, keep-refs, keep-sound, l1-0, fix-l1, tree-in, row-in, row-N}
-use Rattle.cuts.proofs.Step.{shown, gread, gread-none, Quiet, dat-in, fix-one, free-not-0, data-step, link-rt, link-away, link-sound, link-reads, link-zeros, link-read}
+use Rattle.cuts.proofs.Meta.{Geo, GeoOk, Codec, cnt, row, col, Has, l2, fix, tab, dat, mark, refsOf, Sound, Keep, dat-none, keep-blk, keep-tab, keep-dat, keep-mark, keep-refs, keep-sound, l1-0, fix-l1, tree-in, row-in, row-N}
+use Rattle.cuts.proofs.Step.{shown, gread, gread-absent, Quiet, dat-in, fix-one, free-not-0, data-step, link-rt, link-away, link-sound, link-reads, link-zeros, link-read}
 use Rattle.cuts.proofs.Run.{Store, apply, applyAll, apply-append, apply-fill, fill, Each, none, also, each-append, kept, Epoch, epoch-one, epoch-fill, small-mix}
 use lib.ListN.{replicate, length-replicate, length-append, List·getD-append}
 use lib.Seq.{getD-append-add}
@@ -62,6 +62,23 @@ pub small-around : (C o : ℕ) (bs : List ℕ) → Small bs → Small (around C 
 unfolding around
 small-around C o bs p = small-append (replicate o 0) (bs ++ replicate (C - (o + length bs)) 0) (small-replicate o) (small-append bs (replicate (C - (o + length bs)) 0) p (small-replicate (C - (o + length bs))))
 
+-- A is what a new cluster must hold: the data from o on, and around it the bytes that the guest saw
+pub record Body (C o : ℕ) (bs : List ℕ) (old : ℕ → ℕ) (A : List ℕ) : Type 0 where
+  pub len : length A ≡ C
+  pub small : Small A
+  pub inside : (y : ℕ) → y < length bs → getD A (o + y) 0 ≡ getD bs y 0
+  pub outside : (x : ℕ) → x < C → (x < o) ⊎ (o + length bs ≤ x) → getD A x 0 ≡ old x
+
+-- where the guest saw zeros
+pub body-zeros : (C o : ℕ) (bs : List ℕ) (old : ℕ → ℕ) → o + length bs ≤ C → Small bs → ((x : ℕ) → x < C → old x ≡ 0) → Body C o bs old (around C o bs)
+body-zeros C o bs old h p z =
+    record {
+      len = length-around C o bs h;
+      small = small-around C o bs p;
+      inside = around-in C o bs;
+      outside = λ x l d. around-out C o bs x d ∙ sym (z x l);
+    }
+
 pub num-zeros : (k : ℕ) (f : ℕ → ℕ) (o : ℕ) → ((x : ℕ) → o ≤ x → x < o + k → f x ≡ 0) → num k f o ≡ 0
 unfolding num
 num-zeros zero f o h = refl
@@ -74,36 +91,36 @@ small-one p (suc x) = zero-lt-suc 255
 from-start : (f : ℕ → ℕ) (A : List ℕ) (x : ℕ) → f (0 + x) ≡ getD A x 0 → f x ≡ getD A x 0
 from-start f A x e = ap f (sym (zero-add x)) ∙ e
 
-pub shown-some : (p b : ℕ) → p ≢ 0 → shown p 0 b ≡ b
+pub shown-some : (p b u : ℕ) → p ≢ 0 → shown p 0 b u ≡ b
 unfolding shown
-shown-some zero b n = absurd (n refl)
-shown-some (suc p) b n = refl
+shown-some zero b u n = absurd (n refl)
+shown-some (suc p) b u n = refl
 
-pub gread-shown : (g : Geo) (K : Codec) (m : ℕ → ℕ → ℕ) (i j x : ℕ) → dat g K m i j ≢ 0 → K .flag (l2 g m (tab g K m i) j) ≡ 0 → gread g K m i j x ≡ m (dat g K m i j) x
+pub gread-shown : (g : Geo) (K : Codec) (m : ℕ → ℕ → ℕ) (i j x u : ℕ) → dat g K m i j ≢ 0 → mark g K m i j ≡ 0 → gread g K m i j x u ≡ m (dat g K m i j) x
 unfolding gread
-gread-shown g K m i j x d f = rw f (shown-some (dat g K m i j) (m (dat g K m i j) x) d)
+gread-shown g K m i j x u d f = rw f (shown-some (dat g K m i j) (m (dat g K m i j) x) u d)
 
-pub gread-marked : (g : Geo) (K : Codec) (m : ℕ → ℕ → ℕ) (i j x : ℕ) → K .flag (l2 g m (tab g K m i) j) ≢ 0 → gread g K m i j x ≡ 0
+pub gread-marked : (g : Geo) (K : Codec) (m : ℕ → ℕ → ℕ) (i j x : ℕ) → mark g K m i j ≢ 0 → gread g K m i j x ≡ (λ u. 0)
 unfolding gread shown
-gread-marked g K m i j x d = go (dat g K m i j) (K .flag (l2 g m (tab g K m i) j)) (m (dat g K m i j) x) d
+gread-marked g K m i j x d = go (dat g K m i j) (mark g K m i j) (m (dat g K m i j) x) d
   where
-    go : (p f b : ℕ) → f ≢ 0 → shown p f b ≡ 0
-    go zero f b n = refl
-    go (suc p) zero b n = absurd (n refl)
-    go (suc p) (suc f) b n = refl
+    go : (p f b : ℕ) → f ≢ 0 → shown p f b ≡ (λ u. 0)
+    go p zero b n = absurd (n refl)
+    go p (suc f) b n = refl
 
 module _ (g : Geo) (K : Codec) where
-  pub record Wrote (i j o : ℕ) (bs : List ℕ) (img img′ : List ℕ) : Type 0 where
+  -- the data are written to the guest cluster of i and j, under which the bytes u lie
+  pub record Wrote (u : ℕ → ℕ) (i j o : ℕ) (bs : List ℕ) (img img′ : List ℕ) : Type 0 where
     pub other : (a b x : ℕ) → a < g .L → b < g .E → x < g .C → (a ≢ i) ⊎ (b ≢ j) → gread g K (mem (g .C) img′) a b x ≡ gread g K (mem (g .C) img) a b x
-    pub inside : (y : ℕ) → y < length bs → gread g K (mem (g .C) img′) i j (o + y) ≡ getD bs y 0
-    pub outside : (x : ℕ) → x < g .C → (x < o) ⊎ (o + length bs ≤ x) → gread g K (mem (g .C) img′) i j x ≡ gread g K (mem (g .C) img) i j x
+    pub inside : (y : ℕ) → y < length bs → gread g K (mem (g .C) img′) i j (o + y) (u (o + y)) ≡ getD bs y 0
+    pub outside : (x : ℕ) → x < g .C → (x < o) ⊎ (o + length bs ≤ x) → gread g K (mem (g .C) img′) i j x (u x) ≡ gread g K (mem (g .C) img) i j x (u x)
 
   -- bytes are written, each of them the old or the one of bs
-  pub record Partly (i j o : ℕ) (bs : List ℕ) (img img′ : List ℕ) : Type 0 where
+  pub record Partly (u : ℕ → ℕ) (i j o : ℕ) (bs : List ℕ) (img img′ : List ℕ) : Type 0 where
     pub bytes : List ℕ
     pub len : length bytes ≡ length bs
-    pub each : (y : ℕ) → y < length bs → (getD bytes y 0 ≡ gread g K (mem (g .C) img) i j (o + y)) ⊎ (getD bytes y 0 ≡ getD bs y 0)
-    pub wrote : Wrote i j o bytes img img′
+    pub each : (y : ℕ) → y < length bs → (getD bytes y 0 ≡ gread g K (mem (g .C) img) i j (o + y) (u (o + y))) ⊎ (getD bytes y 0 ≡ getD bs y 0)
+    pub wrote : Wrote u i j o bytes img img′
 
 module _ (g : Geo) (K : Codec) (ok : GeoOk g K) (m0 : ℕ → ℕ → ℕ) where
   -- nothing but counts and unreferenced clusters has changed since img
@@ -112,25 +129,25 @@ module _ (g : Geo) (K : Codec) (ok : GeoOk g K) (m0 : ℕ → ℕ → ℕ) where
     pub keep : Keep g K (mem (g .C) img) (mem (g .C) s)
     pub reads : SameGuest g K img s
 
-  abbrev pub MidW : ℕ → ℕ → ℕ → List ℕ → List ℕ → List ℕ → Type 0
-  MidW i j o bs img s = Ok g K m0 s × (SameGuest g K img s ⊎ Wrote g K i j o bs img s)
+  abbrev pub MidW : (ℕ → ℕ) → ℕ → ℕ → ℕ → List ℕ → List ℕ → List ℕ → Type 0
+  MidW u i j o bs img s = Ok g K m0 s × (SameGuest g K img s ⊎ Wrote g K u i j o bs img s)
 
-  abbrev pub EndW : ℕ → ℕ → ℕ → List ℕ → List ℕ → List ℕ → Type 0
-  EndW i j o bs img s = Ok g K m0 s × Wrote g K i j o bs img s
+  abbrev pub EndW : (ℕ → ℕ) → ℕ → ℕ → ℕ → List ℕ → List ℕ → List ℕ → Type 0
+  EndW u i j o bs img s = Ok g K m0 s × Wrote g K u i j o bs img s
 
   -- in place: each cut has stored some bytes of the data
-  abbrev pub MidP : ℕ → ℕ → ℕ → List ℕ → List ℕ → List ℕ → Type 0
-  MidP i j o bs img s = Ok g K m0 s × Partly g K i j o bs img s
+  abbrev pub MidP : (ℕ → ℕ) → ℕ → ℕ → ℕ → List ℕ → List ℕ → List ℕ → Type 0
+  MidP u i j o bs img s = Ok g K m0 s × Partly g K u i j o bs img s
 
-  module _ (img : List ℕ) (k : Ok g K m0 img) (i j o : ℕ) (bs : List ℕ) (l : i < g .L) (n : j < g .E) (inC : o + length bs ≤ g .C) (sm : Small bs) where
-    place-end : dat g K (mem (g .C) img) i j ≢ 0 → refsOf g K (mem (g .C) img) (dat g K (mem (g .C) img) i j) ≤ 1 → K .flag (l2 g (mem (g .C) img) (tab g K (mem (g .C) img) i) j) ≡ 0 → (vs : List ℕ) → o + length vs ≤ g .C → Small vs
-        → EndW i j o vs img (sets img (dat g K (mem (g .C) img) i j * g .C + o) vs)
+  module _ (img : List ℕ) (k : Ok g K m0 img) (u : ℕ → ℕ) (i j o : ℕ) (bs : List ℕ) (l : i < g .L) (n : j < g .E) (inC : o + length bs ≤ g .C) (sm : Small bs) where
+    place-end : dat g K (mem (g .C) img) i j ≢ 0 → refsOf g K (mem (g .C) img) (dat g K (mem (g .C) img) i j) ≤ 1 → mark g K (mem (g .C) img) i j ≡ 0 → (vs : List ℕ) → o + length vs ≤ g .C → Small vs
+        → EndW u i j o vs img (sets img (dat g K (mem (g .C) img) i j * g .C + o) vs)
     place-end d one f vs h p = (
       ok-next g K ok m0 img w o vs k d (away g K ok m0 m w (dat-fix (g .L) (g .E) (fix g m) (tab g K m) (dat g K m) i j l n d one)) p st (r .0 .rts) (keep-sound g K ok m m′ s (r .0) (λ c q. omega (arith, s .inv .covered c q, r .1 c q))),
       record {
         other = r .2;
-        inside = λ y q. gread-shown g K m′ i j (o + y) (λ z. d (sym dd ∙ z)) ff ∙ ap (λ (c : ℕ). m′ c (o + y)) dd ∙ st .inside y q;
-        outside = λ x q e. gread-keep g K ok m m′ (r .0) i j x l n (λ z. out x q e);
+        inside = λ y q. gread-shown g K m′ i j (o + y) (u (o + y)) (λ z. d (sym dd ∙ z)) ff ∙ ap (λ (c : ℕ). m′ c (o + y)) dd ∙ st .inside y q;
+        outside = λ x q e. ap (λ (f : ℕ → ℕ). f (u x)) (gread-keep g K ok m m′ (r .0) i j x l n (λ z. out x q e));
       },
     )
       where
@@ -156,30 +173,27 @@ module _ (g : Geo) (K : Codec) (ok : GeoOk g K) (m0 : ℕ → ℕ → ℕ) where
             × ((a b x : ℕ) → a < g .L → b < g .E → x < g .C → (a ≢ i) ⊎ (b ≢ j) → gread g K m′ a b x ≡ gread g K m a b x)
         r = data-step g K ok m s m′ (next-small g K ok m0 img k w o vs wN h p) i j l n d one (st .cluster)
 
-        tt′ : tab g K m′ i ≡ tab g K m i
-        tt′ = keep-tab g K ok m m′ (r .0) i l
-
         dd : dat g K m′ i j ≡ dat g K m i j
         dd = keep-dat g K ok m m′ (r .0) i j l n
 
-        ff : K .flag (l2 g m′ (tab g K m′ i) j) ≡ 0
-        ff = rw (tt′, r .0 .l2s i j l n (λ z. d (dat-none g K m i j z))) f
+        ff : mark g K m′ i j ≡ 0
+        ff = keep-mark g K ok m m′ (r .0) i j l n ∙ f
 
         out : (x : ℕ) → x < g .C → (x < o) ⊎ (o + length vs ≤ x) → m′ w x ≡ m w x
         out x q (inl e) = st .before w x q e
         out x q (inr e) = st .after w x q e
 
-    pub place-run : dat g K (mem (g .C) img) i j ≢ 0 → refsOf g K (mem (g .C) img) (dat g K (mem (g .C) img) i j) ≤ 1 → K .flag (l2 g (mem (g .C) img) (tab g K (mem (g .C) img) i) j) ≡ 0
-        → Epoch (g .C) (MidP i j o bs img) (fill (dat g K (mem (g .C) img) i j) o bs) img (EndW i j o bs img)
+    pub place-run : dat g K (mem (g .C) img) i j ≢ 0 → refsOf g K (mem (g .C) img) (dat g K (mem (g .C) img) i j) ≤ 1 → mark g K (mem (g .C) img) i j ≡ 0
+        → Epoch (g .C) (MidP u i j o bs img) (fill (dat g K (mem (g .C) img) i j) o bs) img (EndW u i j o bs img)
     place-run d one f =
-        epoch-fill (g .C) (MidP i j o bs img) (dat g K (mem (g .C) img) i j) o bs img (EndW i j o bs img)
-        (λ vs x. let r : EndW i j o vs img (sets img (dat g K (mem (g .C) img) i j * g .C + o) vs) = place-end d one f vs (omega (arith, x .len)) (small-mix _ img bs vs (k .small) sm x) in
+        epoch-fill (g .C) (MidP u i j o bs img) (dat g K (mem (g .C) img) i j) o bs img (EndW u i j o bs img)
+        (λ vs x. let r : EndW u i j o vs img (sets img (dat g K (mem (g .C) img) i j * g .C + o) vs) = place-end d one f vs (omega (arith, x .len)) (small-mix _ img bs vs (k .small) sm x) in
         (r .0, record { bytes = vs; len = x .len; each = λ y q. seen vs y (x .each y q); wrote = r .1 }))
         (place-end d one f bs inC sm)
       where
         seen : (vs : List ℕ) (y : ℕ) → (getD vs y 0 ≡ getD img (dat g K (mem (g .C) img) i j * g .C + o + y) 0) ⊎ (getD vs y 0 ≡ getD bs y 0)
-            → (getD vs y 0 ≡ gread g K (mem (g .C) img) i j (o + y)) ⊎ (getD vs y 0 ≡ getD bs y 0)
-        seen vs y (inl e) = inl (e ∙ ap (λ (z : ℕ). getD img z 0) (add-assoc (dat g K (mem (g .C) img) i j * g .C) o y) ∙ sym (gread-shown g K (mem (g .C) img) i j (o + y) d f))
+            → (getD vs y 0 ≡ gread g K (mem (g .C) img) i j (o + y) (u (o + y))) ⊎ (getD vs y 0 ≡ getD bs y 0)
+        seen vs y (inl e) = inl (e ∙ ap (λ (z : ℕ). getD img z 0) (add-assoc (dat g K (mem (g .C) img) i j * g .C) o y) ∙ sym (gread-shown g K (mem (g .C) img) i j (o + y) (u (o + y)) d f))
         seen vs y (inr e) = inr e
 
   pub keep-trans : (m m′ m″ : ℕ → ℕ → ℕ) → Keep g K m m′ → Keep g K m′ m″ → Keep g K m m″
@@ -237,20 +251,27 @@ module _ (g : Geo) (K : Codec) (ok : GeoOk g K) (m0 : ℕ → ℕ → ℕ) where
   silent-fill img w o (v ∷ vs) l h p f =
       also (λ s t. still-fill img s t w o (v ∷ []) l (omega arith) (small-one (p zero)) f .0) (silent-fill img w (suc o) vs l (omega arith) (λ x. p (suc x)) f)
 
-  module _ (img : List ℕ) (k : Ok g K m0 img) (i j o : ℕ) (bs : List ℕ) (l : i < g .L) (n : j < g .E) (inC : o + length bs ≤ g .C) (sm : Small bs) where
-    -- what a new entry for cluster c brings to light, where the guest saw zeros
+  module _ (img : List ℕ) (k : Ok g K m0 img) (u : ℕ → ℕ) (i j o : ℕ) (bs : List ℕ) (l : i < g .L) (n : j < g .E) (inC : o + length bs ≤ g .C)
+      (A : List ℕ) (whole : Body (g .C) o bs (λ x. gread g K (mem (g .C) img) i j x (u x)) A) where
+    lA : length A ≡ g .C
+    lA = whole .len
+
+    smA : Small A
+    smA = whole .small
+
+    -- what a new entry for cluster c, which holds A, brings to light
     commit : (s : List ℕ) → Still img s → (c : ℕ) → c < g .N → c ≢ 0 → tab g K (mem (g .C) img) i ≢ 0
         → refsOf g K (mem (g .C) img) (tab g K (mem (g .C) img) i) ≤ 1 → (dat g K (mem (g .C) img) i j ≢ 0 → refsOf g K (mem (g .C) img) (dat g K (mem (g .C) img) i j) ≤ 1)
         → ((refsOf g K (mem (g .C) s) c ≡ 0) × (1 ≤ cnt g (mem (g .C) s) c)) ⊎ (c ≡ dat g K (mem (g .C) s) i j)
-        → ((x : ℕ) → x < g .C → mem (g .C) s c x ≡ getD (around (g .C) o bs) x 0) → ((x : ℕ) → x < g .C → gread g K (mem (g .C) img) i j x ≡ 0)
-        → EndW i j o bs img (apply (g .C) (entryStore g (tab g K (mem (g .C) img) i) j (K .mk c)) s)
+        → ((x : ℕ) → x < g .C → mem (g .C) s c x ≡ getD A x 0)
+        → EndW u i j o bs img (apply (g .C) (entryStore g (tab g K (mem (g .C) img) i) j (K .mk c)) s)
     unfolding SameGuest
-    commit s t c cN c0 tb one alone new body zs = (
+    commit s t c cN c0 tb one alone new body = (
       e .fine,
       record {
         other = λ a b x p q h d. e .reads a b x p q h d ∙ t .reads a b x p q h;
-        inside = λ y q. lit (o + y) (omega arith) ∙ around-in (g .C) o bs y q;
-        outside = λ x q d. lit x q ∙ around-out (g .C) o bs x d ∙ sym (zs x q);
+        inside = λ y q. lit (o + y) (omega arith) ∙ whole .inside y q;
+        outside = λ x q d. lit x q ∙ whole .outside x q d;
       },
     )
       where
@@ -280,11 +301,11 @@ module _ (g : Geo) (K : Codec) (ok : GeoOk g K) (m0 : ℕ → ℕ → ℕ) where
         e : Entered g K ok m0 s (apply (g .C) (entryStore g (tab g K m i) j (K .mk c)) s) i j (K .mk c)
         e = rw tb′ at (next-entry g K ok m0 s (t .fine) i j (K .mk c) l n (λ z. tb (sym tb′ ∙ z)) (rw (tb′, still-refs img s t (tab g K m i)) one) alone′ (ok .laws .mk-good2 c cN c0) (ok .laws .mk-lt c cN) (λ z. ok .laws .mk-own c cN) (new′ new))
 
-        lit : (x : ℕ) → x < g .C → gread g K (mem (g .C) (apply (g .C) (entryStore g (tab g K m i) j (K .mk c)) s)) i j x ≡ getD (around (g .C) o bs) x 0
-        lit x q = e .read x q ∙ rw (mc, ok .laws .mk-flag c cN) (shown-some c (ms c x) c0) ∙ body x q
+        lit : (x : ℕ) → x < g .C → gread g K (mem (g .C) (apply (g .C) (entryStore g (tab g K m i) j (K .mk c)) s)) i j x (u x) ≡ getD A x 0
+        lit x q = ap (λ (f : ℕ → ℕ). f (u x)) (e .read x q) ∙ rw (mc, ok .laws .mk-flag c cN) (shown-some c (ms c x) (u x) c0) ∙ body x q
 
     -- the data cluster under a zero mark may hold anything
-    marked-fill : dat g K (mem (g .C) img) i j ≢ 0 → refsOf g K (mem (g .C) img) (dat g K (mem (g .C) img) i j) ≤ 1 → K .flag (l2 g (mem (g .C) img) (tab g K (mem (g .C) img) i) j) ≢ 0 → (vs : List ℕ) → 0 + length vs ≤ g .C → Small vs
+    marked-fill : dat g K (mem (g .C) img) i j ≢ 0 → refsOf g K (mem (g .C) img) (dat g K (mem (g .C) img) i j) ≤ 1 → mark g K (mem (g .C) img) i j ≢ 0 → (vs : List ℕ) → 0 + length vs ≤ g .C → Small vs
         → Still img (sets img (dat g K (mem (g .C) img) i j * g .C + 0) vs)
         × Stored (g .C) (mem (g .C) img) (mem (g .C) (sets img (dat g K (mem (g .C) img) i j * g .C + 0) vs)) (dat g K (mem (g .C) img) i j) 0 vs
     unfolding SameGuest
@@ -319,30 +340,30 @@ module _ (g : Geo) (K : Codec) (ok : GeoOk g K) (m0 : ℕ → ℕ → ℕ) where
             × ((a b x : ℕ) → a < g .L → b < g .E → x < g .C → (a ≢ i) ⊎ (b ≢ j) → gread g K m′ a b x ≡ gread g K m a b x)
         r = data-step g K ok m s m′ (next-small g K ok m0 img k c 0 vs cN h p) i j l n d one (st .cluster)
 
-        ff : K .flag (l2 g m′ (tab g K m′ i) j) ≢ 0
-        ff = rw (keep-tab g K ok m m′ (r .0) i l, r .0 .l2s i j l n (λ z. d (dat-none g K m i j z))) f
+        ff : mark g K m′ i j ≢ 0
+        ff z = f (sym (keep-mark g K ok m m′ (r .0) i j l n) ∙ z)
 
         see : (a b x : ℕ) → a < g .L → b < g .E → x < g .C → ((a ≡ i) × (b ≡ j)) ⊎ ((a ≢ i) ⊎ (b ≢ j)) → gread g K m′ a b x ≡ gread g K m a b x
         see a b x e q w (inr u) = r .2 a b x e q w u
         see a b x e q w (inl u) = rw (u .0, u .1) (gread-marked g K m′ i j x ff ∙ sym (gread-marked g K m i j x f))
 
     -- the unit that brings the data to light, after a flush: what went before it shows nothing
-    light : (s : List ℕ) → Still img s → (u : Store) → EndW i j o bs img (apply (g .C) u s) → Epoch (g .C) (MidW i j o bs img) (u ∷ []) s (EndW i j o bs img)
-    light s t u r = epoch-one (g .C) (MidW i j o bs img) u s (EndW i j o bs img) (t .fine, inl (t .reads)) (r .0, inr (r .1)) r
+    light : (s : List ℕ) → Still img s → (v : Store) → EndW u i j o bs img (apply (g .C) v s) → Epoch (g .C) (MidW u i j o bs img) (v ∷ []) s (EndW u i j o bs img)
+    light s t v r = epoch-one (g .C) (MidW u i j o bs img) v s (EndW u i j o bs img) (t .fine, inl (t .reads)) (r .0, inr (r .1)) r
 
     -- a place under a zero mark: the whole cluster; after a flush the entry
     pub marked-run : dat g K (mem (g .C) img) i j ≢ 0
         → refsOf g K (mem (g .C) img) (tab g K (mem (g .C) img) i) ≤ 1 → refsOf g K (mem (g .C) img) (dat g K (mem (g .C) img) i j) ≤ 1
-        → K .flag (l2 g (mem (g .C) img) (tab g K (mem (g .C) img) i) j) ≢ 0
-        → Epoch (g .C) (MidW i j o bs img) (fill (dat g K (mem (g .C) img) i j) 0 (around (g .C) o bs)) img
-        (λ s. Epoch (g .C) (MidW i j o bs img) (entryStore g (tab g K (mem (g .C) img) i) j (K .mk (dat g K (mem (g .C) img) i j)) ∷ []) s (EndW i j o bs img))
+        → mark g K (mem (g .C) img) i j ≢ 0
+        → Epoch (g .C) (MidW u i j o bs img) (fill (dat g K (mem (g .C) img) i j) 0 A) img
+        (λ s. Epoch (g .C) (MidW u i j o bs img) (entryStore g (tab g K (mem (g .C) img) i) j (K .mk (dat g K (mem (g .C) img) i j)) ∷ []) s (EndW u i j o bs img))
     marked-run d one alone f =
-        epoch-fill (g .C) (MidW i j o bs img) c 0 A img (λ s. Epoch (g .C) (MidW i j o bs img) (entryStore g (tab g K m i) j (K .mk c) ∷ []) s (EndW i j o bs img))
+        epoch-fill (g .C) (MidW u i j o bs img) c 0 A img (λ s. Epoch (g .C) (MidW u i j o bs img) (entryStore g (tab g K m i) j (K .mk c) ∷ []) s (EndW u i j o bs img))
         (λ vs x. let r = filled vs (omega (arith, x .len, lA)) (small-mix _ img A vs (k .small) smA x) in (r .0 .fine, inl (r .0 .reads)))
         (let r = filled A (omega (arith, lA)) smA in
         light _ (r .0) _
         (commit _ (r .0) c cN d tb one (λ z. alone) (inr (sym (keep-dat g K ok m _ (r .0 .keep) i j l n)))
-        (λ x q. from-start (mem (g .C) (sets img (c * g .C + 0) A) c) A x (r .1 .inside x (omega (arith, lA)))) (λ x q. gread-marked g K m i j x f)))
+        (λ x q. from-start (mem (g .C) (sets img (c * g .C + 0) A) c) A x (r .1 .inside x (omega (arith, lA))))))
       where
         m : ℕ → ℕ → ℕ
         m = mem (g .C) img
@@ -352,15 +373,6 @@ module _ (g : Geo) (K : Codec) (ok : GeoOk g K) (m0 : ℕ → ℕ → ℕ) where
 
         tb : tab g K m i ≢ 0
         tb z = d (dat-none g K m i j z)
-
-        A : List ℕ
-        A = around (g .C) o bs
-
-        lA : length A ≡ g .C
-        lA = length-around (g .C) o bs inC
-
-        smA : Small A
-        smA = small-around (g .C) o bs sm
 
         cN : c < g .N
         cN = dat-in g K ok m (k .sound) i j l n
@@ -372,28 +384,19 @@ module _ (g : Geo) (K : Codec) (ok : GeoOk g K) (m0 : ℕ → ℕ → ℕ) where
     -- no place: the count and the whole cluster; after a flush the entry
     pub alloc-run : (c : ℕ) → c < g .N → cnt g (mem (g .C) img) c ≡ 0 → tab g K (mem (g .C) img) i ≢ 0 → dat g K (mem (g .C) img) i j ≡ 0
         → refsOf g K (mem (g .C) img) (tab g K (mem (g .C) img) i) ≤ 1
-        → Epoch (g .C) (MidW i j o bs img) (countStore g (mem (g .C) img) c 1 ∷ fill c 0 (around (g .C) o bs)) img
-        (λ s. Epoch (g .C) (MidW i j o bs img) (entryStore g (tab g K (mem (g .C) img) i) j (K .mk c) ∷ []) s (EndW i j o bs img))
+        → Epoch (g .C) (MidW u i j o bs img) (countStore g (mem (g .C) img) c 1 ∷ fill c 0 A) img
+        (λ s. Epoch (g .C) (MidW u i j o bs img) (entryStore g (tab g K (mem (g .C) img) i) j (K .mk c) ∷ []) s (EndW u i j o bs img))
     unfolding applyAll
     alloc-run c cN z tb d one = (
       (λ cs. let t = kept (g .C) (Still img) silent cs img st₀ in (t .fine, inl (t .reads))),
       rw (apply-fill (g .C) c 0 A s₁)
           (light _ (st₂ .0) _
           (commit _ (st₂ .0) c cN c0 tb one (λ y. absurd (y d)) (inl (still-refs img _ (st₂ .0) c ∙ free, omega (arith, st₂ .1 c cN, st₁ .1)))
-          (λ x q. from-start (mem (g .C) (sets s₁ (c * g .C + 0) A) c) A x (st₂ .2 .inside x (omega (arith, lA)))) (λ x q. gread-none g K m i j x d))),
+          (λ x q. from-start (mem (g .C) (sets s₁ (c * g .C + 0) A) c) A x (st₂ .2 .inside x (omega (arith, lA)))))),
     )
       where
         m : ℕ → ℕ → ℕ
         m = mem (g .C) img
-
-        A : List ℕ
-        A = around (g .C) o bs
-
-        lA : length A ≡ g .C
-        lA = length-around (g .C) o bs inC
-
-        smA : Small A
-        smA = small-around (g .C) o bs sm
 
         free : refsOf g K m c ≡ 0
         free = omega (arith, k .sound .inv .covered c cN)
@@ -425,10 +428,10 @@ module _ (g : Geo) (K : Codec) (ok : GeoOk g K) (m0 : ℕ → ℕ → ℕ) where
       pub count-c : cnt g (mem (g .C) s) c ≡ 1
       pub entry : l2 g (mem (g .C) s) t j ≡ K .mk c
       pub none : (b : ℕ) → b < g .E → b ≢ j → l2 g (mem (g .C) s) t b ≡ 0
-      pub body : (x : ℕ) → x < g .C → mem (g .C) s c x ≡ getD (around (g .C) o bs) x 0
+      pub body : (x : ℕ) → x < g .C → mem (g .C) s c x ≡ getD A x 0
 
     link-commit : Has g i → (t c : ℕ) → t < g .N → c < g .N → t ≢ c → cnt g (mem (g .C) img) t ≡ 0 → cnt g (mem (g .C) img) c ≡ 0 → tab g K (mem (g .C) img) i ≡ 0
-        → (s : List ℕ) → Ready t c s → EndW i j o bs img (apply (g .C) (linkStore g i (K .mk t)) s)
+        → (s : List ℕ) → Ready t c s → EndW u i j o bs img (apply (g .C) (linkStore g i (K .mk t)) s)
     unfolding SameGuest apply linkStore
     link-commit hi t c tN cN tc zt zc z s r = (
       ok-next g K ok m0 s w p (enc 8 (K .mk t)) (r .still .fine) w0
@@ -437,8 +440,8 @@ module _ (g : Geo) (K : Codec) (ok : GeoOk g K) (m0 : ℕ → ℕ → ℕ) where
           (λ b q. goods b q (ℕ-discrete b j)) (λ b q d. ap (K .clus) (r .none b q d) ∙ ok .laws .zero-clus)),
       record {
         other = λ a b x e q h d. see a b x e q h d (ℕ-discrete a i);
-        inside = λ y q. lit (o + y) (omega arith) ∙ around-in (g .C) o bs y q;
-        outside = λ x q d. lit x q ∙ around-out (g .C) o bs x d ∙ sym (gread-none g K m i j x (dat-none g K m i j z));
+        inside = λ y q. lit (o + y) (omega arith) ∙ whole .inside y q;
+        outside = λ x q d. lit x q ∙ whole .outside x q d;
       },
     )
       where
@@ -504,13 +507,13 @@ module _ (g : Geo) (K : Codec) (ok : GeoOk g K) (m0 : ℕ → ℕ → ℕ) where
         see a b x e q h d (no u) = link-reads g K ok ms ss m′ sm′ i j t l hi n z′ tN ft st a b x e q h u ∙ r .still .reads a b x e q h
         see a b x e q h (inl d) (yes u) = absurd (d u)
         see a b x e q h (inr d) (yes u) =
-            rw u (link-zeros g K ok ms ss m′ sm′ i j t l hi n z′ tN ft st b x q (ap (K .clus) (r .none b q d) ∙ ok .laws .zero-clus) ∙ sym (gread-none g K m i b x (dat-none g K m i b z)))
+            rw u (link-zeros g K ok ms ss m′ sm′ i j t l hi n z′ tN ft st b x q (r .none b q d) ∙ sym (gread-absent g K m i b x z))
 
         cw : K .clus (l2 g ms t j) ≢ w
         cw e = omega (arith, fix-l1 g ms w (i / g .M) (i % g .M / g .E) tI iE refl, refs-fix (g .L) (g .E) (fix g ms) (tab g K ms) (dat g K ms) c, fc, ap (fix g ms) (sym mc ∙ ap (K .clus) (sym (r .entry)) ∙ e))
 
-        lit : (x : ℕ) → x < g .C → gread g K m′ i j x ≡ getD (around (g .C) o bs) x 0
-        lit x q = link-read g K ok ms ss m′ sm′ i j t l hi n z′ tN ft st x q cw ∙ rw (r .entry, mc, ok .laws .mk-flag c cN) (shown-some c (ms c x) c0) ∙ r .body x q
+        lit : (x : ℕ) → x < g .C → gread g K m′ i j x (u x) ≡ getD A x 0
+        lit x q = ap (λ (f : ℕ → ℕ). f (u x)) (link-read g K ok ms ss m′ sm′ i j t l hi n z′ tN ft st x q cw) ∙ rw (r .entry, mc, ok .laws .mk-flag c cN) (shown-some c (ms c x) (u x) c0) ∙ r .body x q
 
     module _ (t c : ℕ) (tN : t < g .N) (cN : c < g .N) (tc : t ≢ c) (zt : cnt g (mem (g .C) img) t ≡ 0) (zc : cnt g (mem (g .C) img) c ≡ 0) where
       free-t : refsOf g K (mem (g .C) img) t ≡ 0
@@ -530,7 +533,7 @@ module _ (g : Geo) (K : Codec) (ok : GeoOk g K) (m0 : ℕ → ℕ → ℕ) where
         count-t : cnt g (mem (g .C) s) t ≡ 1
         count-c : cnt g (mem (g .C) s) c ≡ 1
         zeros : (x : ℕ) → x < g .C → mem (g .C) s t x ≡ 0
-        body : (x : ℕ) → x < g .C → mem (g .C) s c x ≡ getD (around (g .C) o bs) x 0
+        body : (x : ℕ) → x < g .C → mem (g .C) s c x ≡ getD A x 0
 
       step-entry : (s : List ℕ) → P₂ s → Ready t c (apply (g .C) (entryStore g t j (K .mk c)) s)
       unfolding apply entryStore l2
@@ -554,14 +557,8 @@ module _ (g : Geo) (K : Codec) (ok : GeoOk g K) (m0 : ℕ → ℕ → ℕ) where
           r : Still img (sets s (t * g .C + 8 * j) (enc 8 (K .mk c))) × ((x : ℕ) → x < g .N → cnt g m′ x ≡ cnt g ms x) × Stored (g .C) ms m′ t (8 * j) (enc 8 (K .mk c))
           r = still-fill img s (p .still) t (8 * j) (enc 8 (K .mk c)) tN (omega (arith, ok .c8, length-enc 8 (K .mk c))) (small-enc 8 (K .mk c)) free-t
 
-      abbrev A : List ℕ
-      A = around (g .C) o bs
-
       abbrev Z : List ℕ
       Z = replicate (g .C) 0
-
-      lA : length A ≡ g .C
-      lA = length-around (g .C) o bs inC
 
       lZ : length Z ≡ g .C
       lZ = length-replicate {A = ℕ} (g .C) 0
@@ -616,7 +613,7 @@ module _ (g : Geo) (K : Codec) (ok : GeoOk g K) (m0 : ℕ → ℕ → ℕ) where
 
           r : Still img (sets s₁ (c * g .C + 0) A) × ((x : ℕ) → x < g .N → cnt g (mem (g .C) (sets s₁ (c * g .C + 0) A)) x ≡ cnt g (mem (g .C) s₁) x)
               × Stored (g .C) (mem (g .C) s₁) (mem (g .C) (sets s₁ (c * g .C + 0) A)) c 0 A
-          r = still-fill img s₁ (st₁ .0) c 0 A cN (omega (arith, lA)) (small-around (g .C) o bs sm) free-c
+          r = still-fill img s₁ (st₁ .0) c 0 A cN (omega (arith, lA)) smA free-c
 
       -- the entry in the table that nothing refers to yet
       silent-entry : Silent img (entryStore g t j (K .mk c))
@@ -626,24 +623,24 @@ module _ (g : Geo) (K : Codec) (ok : GeoOk g K) (m0 : ℕ → ℕ → ℕ) where
       abbrev pub ahead : List Store
       ahead =
           (countStore g (mem (g .C) img) t 1 ∷ fill t 0 (replicate (g .C) 0))
-          ++ ((countStore g (mem (g .C) img) c 1 ∷ fill c 0 (around (g .C) o bs)) ++ (entryStore g t j (K .mk c) ∷ []))
+          ++ ((countStore g (mem (g .C) img) c 1 ∷ fill c 0 A) ++ (entryStore g t j (K .mk c) ∷ []))
 
       silent : Each (Silent img) ahead
       silent =
           each-append
           (also (silent-count img t 1 tN (one-fits g K ok m0) (omega (arith, free-t))) (silent-fill img t 0 Z tN (omega (arith, lZ)) (small-replicate (g .C)) free-t))
           (each-append
-          (also (silent-count img c 1 cN (one-fits g K ok m0) (omega (arith, free-c))) (silent-fill img c 0 A cN (omega (arith, lA)) (small-around (g .C) o bs sm) free-c))
+          (also (silent-count img c 1 cN (one-fits g K ok m0) (omega (arith, free-c))) (silent-fill img c 0 A cN (omega (arith, lA)) smA free-c))
           (also silent-entry none))
 
       -- no table: its count, its zeros, the data's count, the data's cluster, the L2 entry; after a flush the L1 entry
       pub table-run : Has g i → tab g K (mem (g .C) img) i ≡ 0
-          → Epoch (g .C) (MidW i j o bs img) ahead img (λ s. Epoch (g .C) (MidW i j o bs img) (linkStore g i (K .mk t) ∷ []) s (EndW i j o bs img))
+          → Epoch (g .C) (MidW u i j o bs img) ahead img (λ s. Epoch (g .C) (MidW u i j o bs img) (linkStore g i (K .mk t) ∷ []) s (EndW u i j o bs img))
       unfolding applyAll
       table-run hi z = (
         (λ cs. let p = kept (g .C) (Still img) silent cs img (still-start img k) in (p .fine, inl (p .reads))),
         rw (apply-append, apply-append) (link _ (step-entry _ (step-data _ step-table))),
       )
         where
-          link : (s : List ℕ) → Ready t c s → Epoch (g .C) (MidW i j o bs img) (linkStore g i (K .mk t) ∷ []) s (EndW i j o bs img)
+          link : (s : List ℕ) → Ready t c s → Epoch (g .C) (MidW u i j o bs img) (linkStore g i (K .mk t) ∷ []) s (EndW u i j o bs img)
           link s e = light s (e .still) (linkStore g i (K .mk t)) (link-commit hi t c tN cN tc zt zc z s e)

@@ -114,8 +114,8 @@ fn accepted(fd: i32, image: &[u8], g: Geometry, v: Verdict) -> bool
 
 // Writes what is to be said of an image. The scratch has two bytes for each cluster of it.
 fn report(fd: i32, image: &[u8], scratch: &mut [u8]) -> bool {
-    let v = qcow2::check(image, scratch);
-    let j = qcow2_header::judge(image);
+    let v = qcow2::check(image, &image[0..0], scratch);
+    let j = qcow2_header::judge(image, false);
     match j {
         Judged::Refused(k) => refused(fd, k),
         Judged::Accepted(g) => accepted(fd, image, g, v),

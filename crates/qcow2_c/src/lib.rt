@@ -1,4 +1,5 @@
-// The calls for programs in C or Rust: numbers and byte slices only. include/qcow2_core.h declares them.
+// The calls for programs in C or Rust: numbers and byte slices only. include/qcow2_core.h declares them, and has the short forms that lend no bytes of a
+// backing file.
 ghost use mathlib.Core.Path.{_≡_};
 ghost use mathlib.Core.List.{List};
 ghost use Prim.Native.Nat.{ℕ, suc, _/_};
@@ -7,7 +8,9 @@ ghost use lib.ListN.{length};
 ghost use Rattle.choice.specs.Pick.{if_then_else_};
 ghost use Rattle.tally.specs.Tally.{difference};
 ghost use Rattle.units.specs.Plan.{outcome, after};
-ghost use Rattle.qcow2_spec.specs.Header.{clusterBits, diskSize, clusters as clustersOf, judge};
+ghost use mathlib.Core.Bool.{true};
+ghost use Rattle.qcow2_spec.specs.Header.{clusterBits, diskSize, clusters as clustersOf, backingOffset, judgeLent, judge};
+ghost use Rattle.qcow2_backing.specs.Backing.{shownLength};
 ghost use Rattle.qcow2_spec.specs.Guest.{translate, readNumber, readInto, inPlace};
 ghost use Rattle.qcow2_spec.specs.Runs.{foundCode, foundHost, listRuns, runsInto};
 ghost use Rattle.qcow2_spec.specs.Store.{writePlan, discardPlan};
@@ -18,111 +21,127 @@ ghost use Rattle.qcow2_codes.specs.Codes.{listedCode, listedRows, outcomeCode, 
 use qcow2_spec::Judged;
 
 #[no_mangle]
-pub extern "C" fn qcow2_translate(image: &[u8], offset: u64, host: &mut u64) -> u32
-    ensures { λ r. ⌜ (r ≡ foundCode (translate (now (image .entry)) offset)) × (now (host .exit) ≡ foundHost (translate (now (image .entry)) offset)) ⌝ }
+pub extern "C" fn qcow2_backed_translate(
+    image: &[u8],
+    backing: &[u8],
+    offset: u64,
+    host: &mut u64,
+) -> u32
+    ensures { λ r. ⌜ (r ≡ foundCode (translate (now (backing .entry)) (now (image .entry)) offset)) × (now (host .exit) ≡ foundHost (translate (now (backing .entry)) (now (image .entry)) offset)) ⌝ }
 {
-    let f = qcow2::translate(image, offset);
+    let f = qcow2::translate(image, backing, offset);
     *host = qcow2_alike::codes::found_host(f);
     qcow2_alike::codes::found_code(f)
 }
 
 #[no_mangle]
-pub extern "C" fn qcow2_read(image: &[u8], offset: u64, out: &mut [u8]) -> u32
-    ensures { λ r. ⌜ (r ≡ readNumber (now (image .entry)) 0 offset (length (now (out .entry)))) × (now (out .exit) ≡ readInto (now (image .entry)) 0 offset (now (out .entry))) ⌝ }
+pub extern "C" fn qcow2_backed_read(
+    image: &[u8],
+    backing: &[u8],
+    offset: u64,
+    out: &mut [u8],
+) -> u32
+    ensures { λ r. ⌜ (r ≡ readNumber (now (backing .entry)) (now (image .entry)) 0 offset (length (now (out .entry)))) × (now (out .exit) ≡ readInto (now (backing .entry)) (now (image .entry)) 0 offset (now (out .entry))) ⌝ }
 {
-    qcow2::read(image, offset, out) as u32
+    qcow2::read(image, backing, offset, out) as u32
 }
 
 #[no_mangle]
-pub extern "C" fn qcow2_read_snapshot(
+pub extern "C" fn qcow2_backed_read_snapshot(
     image: &[u8],
+    backing: &[u8],
     snapshot: u64,
     offset: u64,
     out: &mut [u8],
 ) -> u32
-    ensures { λ r. ⌜ (r ≡ readNumber (now (image .entry)) (suc snapshot) offset (length (now (out .entry)))) × (now (out .exit) ≡ readInto (now (image .entry)) (suc snapshot) offset (now (out .entry))) ⌝ }
+    ensures { λ r. ⌜ (r ≡ readNumber (now (backing .entry)) (now (image .entry)) (suc snapshot) offset (length (now (out .entry)))) × (now (out .exit) ≡ readInto (now (backing .entry)) (now (image .entry)) (suc snapshot) offset (now (out .entry))) ⌝ }
 {
-    qcow2::read_snapshot(image, snapshot, offset, out) as u32
+    qcow2::read_snapshot(image, backing, snapshot, offset, out) as u32
 }
 
 // How many guest bytes lie in place; they start at the host offset that qcow2_translate gives.
 #[no_mangle]
-pub extern "C" fn qcow2_lookup(image: &[u8], offset: u64) -> usize
-    ensures { λ r. ⌜ r ≡ length (inPlace (now (image .entry)) offset) ⌝ }
+pub extern "C" fn qcow2_backed_lookup(image: &[u8], backing: &[u8], offset: u64) -> usize
+    ensures { λ r. ⌜ r ≡ length (inPlace (now (backing .entry)) (now (image .entry)) offset) ⌝ }
 {
-    qcow2::lookup(image, offset).len()
+    qcow2::lookup(image, backing, offset).len()
 }
 
 // The runs of the len guest bytes from the offset on, three numbers each.
 #[no_mangle]
-pub extern "C" fn qcow2_runs(
+pub extern "C" fn qcow2_backed_runs(
     image: &[u8],
+    backing: &[u8],
     offset: u64,
     len: u64,
     rows: &mut [u64],
     count: &mut u64,
 ) -> u32
-    ensures { λ r. ⌜ ((r ≡ listedCode (listRuns (now (image .entry)) 0 offset len (length (now (rows .entry)) / 3))) × (now (count .exit) ≡ listedRows (listRuns (now (image .entry)) 0 offset len (length (now (rows .entry)) / 3)))) × (now (rows .exit) ≡ runsInto (now (image .entry)) 0 offset len (now (rows .entry))) ⌝ }
+    ensures { λ r. ⌜ ((r ≡ listedCode (listRuns (now (backing .entry)) (now (image .entry)) 0 offset len (length (now (rows .entry)) / 3))) × (now (count .exit) ≡ listedRows (listRuns (now (backing .entry)) (now (image .entry)) 0 offset len (length (now (rows .entry)) / 3)))) × (now (rows .exit) ≡ runsInto (now (backing .entry)) (now (image .entry)) 0 offset len (now (rows .entry))) ⌝ }
 {
-    let l = qcow2::runs(image, offset, len, rows);
+    let l = qcow2::runs(image, backing, offset, len, rows);
     *count = qcow2_codes::listed_rows(l);
     qcow2_codes::listed_code(l)
 }
 
 #[no_mangle]
-pub extern "C" fn qcow2_write(
+pub extern "C" fn qcow2_backed_write(
     image: &mut [u8],
+    backing: &[u8],
     offset: u64,
     src: &[u8],
     allowance: u64,
     units: &mut u64,
 ) -> u32
-    ensures { λ r. ⌜ ((r ≡ outcomeCode (outcome (writePlan (now (image .entry)) offset (now (src .entry))) allowance)) × (now (units .exit) ≡ outcomeUnits (outcome (writePlan (now (image .entry)) offset (now (src .entry))) allowance))) × (now (image .exit) ≡ after (writePlan (now (image .entry)) offset (now (src .entry))) allowance (now (image .entry))) ⌝ }
+    ensures { λ r. ⌜ ((r ≡ outcomeCode (outcome (writePlan (now (backing .entry)) (now (image .entry)) offset (now (src .entry))) allowance)) × (now (units .exit) ≡ outcomeUnits (outcome (writePlan (now (backing .entry)) (now (image .entry)) offset (now (src .entry))) allowance))) × (now (image .exit) ≡ after (writePlan (now (backing .entry)) (now (image .entry)) offset (now (src .entry))) allowance (now (image .entry))) ⌝ }
 {
-    let o = qcow2::write(image, offset, src, allowance as usize);
+    let o = qcow2::write(image, backing, offset, src, allowance as usize);
     *units = qcow2_codes::outcome_units(o);
     qcow2_codes::outcome_code(o)
 }
 
 #[no_mangle]
-pub extern "C" fn qcow2_discard(
+pub extern "C" fn qcow2_backed_discard(
     image: &mut [u8],
+    backing: &[u8],
     cluster: u64,
     allowance: u64,
     units: &mut u64,
 ) -> u32
-    ensures { λ r. ⌜ ((r ≡ outcomeCode (outcome (discardPlan (now (image .entry)) cluster) allowance)) × (now (units .exit) ≡ outcomeUnits (outcome (discardPlan (now (image .entry)) cluster) allowance))) × (now (image .exit) ≡ after (discardPlan (now (image .entry)) cluster) allowance (now (image .entry))) ⌝ }
+    ensures { λ r. ⌜ ((r ≡ outcomeCode (outcome (discardPlan (now (backing .entry)) (now (image .entry)) cluster) allowance)) × (now (units .exit) ≡ outcomeUnits (outcome (discardPlan (now (backing .entry)) (now (image .entry)) cluster) allowance))) × (now (image .exit) ≡ after (discardPlan (now (backing .entry)) (now (image .entry)) cluster) allowance (now (image .entry))) ⌝ }
 {
-    let o = qcow2::discard(image, cluster, allowance as usize);
+    let o = qcow2::discard(image, backing, cluster, allowance as usize);
     *units = qcow2_codes::outcome_units(o);
     qcow2_codes::outcome_code(o)
 }
 
 #[no_mangle]
-pub extern "C" fn qcow2_repair(
+pub extern "C" fn qcow2_backed_repair(
     image: &mut [u8],
+    backing: &[u8],
     scratch: &mut [u8],
     allowance: u64,
     units: &mut u64,
 ) -> u32
-    ensures { λ r. ⌜ ((r ≡ outcomeCode (outcome (repairPlan (now (image .entry)) (length (now (scratch .entry)))) allowance)) × (now (units .exit) ≡ outcomeUnits (outcome (repairPlan (now (image .entry)) (length (now (scratch .entry)))) allowance))) × ((now (image .exit) ≡ after (repairPlan (now (image .entry)) (length (now (scratch .entry)))) allowance (now (image .entry))) × (now (scratch .exit) ≡ scratchLeft (now (image .entry)) (now (scratch .entry)))) ⌝ }
+    ensures { λ r. ⌜ ((r ≡ outcomeCode (outcome (repairPlan (now (backing .entry)) (now (image .entry)) (length (now (scratch .entry)))) allowance)) × (now (units .exit) ≡ outcomeUnits (outcome (repairPlan (now (backing .entry)) (now (image .entry)) (length (now (scratch .entry)))) allowance))) × ((now (image .exit) ≡ after (repairPlan (now (backing .entry)) (now (image .entry)) (length (now (scratch .entry)))) allowance (now (image .entry))) × (now (scratch .exit) ≡ scratchLeft (now (backing .entry)) (now (image .entry)) (now (scratch .entry)))) ⌝ }
 {
-    let o = qcow2::repair(image, scratch, allowance as usize);
+    let o = qcow2::repair(image, backing, scratch, allowance as usize);
     *units = qcow2_codes::outcome_units(o);
     qcow2_codes::outcome_code(o)
 }
 
 #[no_mangle]
-pub extern "C" fn qcow2_check(
+pub extern "C" fn qcow2_backed_check(
     image: &[u8],
+    backing: &[u8],
     scratch: &mut [u8],
     first: &mut u64,
     second: &mut u64,
     third: &mut u64,
 ) -> u32
-    ensures { λ r. ⌜ (((r ≡ verdictCode (check (now (image .entry)) (length (now (scratch .entry))))) × (now (first .exit) ≡ verdictFirst (check (now (image .entry)) (length (now (scratch .entry)))))) × ((now (second .exit) ≡ verdictSecond (check (now (image .entry)) (length (now (scratch .entry))))) × (now (third .exit) ≡ verdictThird (check (now (image .entry)) (length (now (scratch .entry))))))) × (now (scratch .exit) ≡ scratchLeft (now (image .entry)) (now (scratch .entry))) ⌝ }
+    ensures { λ r. ⌜ (((r ≡ verdictCode (check (now (backing .entry)) (now (image .entry)) (length (now (scratch .entry))))) × (now (first .exit) ≡ verdictFirst (check (now (backing .entry)) (now (image .entry)) (length (now (scratch .entry)))))) × ((now (second .exit) ≡ verdictSecond (check (now (backing .entry)) (now (image .entry)) (length (now (scratch .entry))))) × (now (third .exit) ≡ verdictThird (check (now (backing .entry)) (now (image .entry)) (length (now (scratch .entry))))))) × (now (scratch .exit) ≡ scratchLeft (now (backing .entry)) (now (image .entry)) (now (scratch .entry))) ⌝ }
 {
-    let v = qcow2::check(image, scratch);
+    let v = qcow2::check(image, backing, scratch);
     *first = qcow2_codes::verdict_first(v);
     *second = qcow2_codes::verdict_second(v);
     *third = qcow2_codes::verdict_third(v);
@@ -139,15 +158,16 @@ pub extern "C" fn qcow2_difference(stored: u64, figure: u16) -> i32
 
 // What the header of an accepted image gives; all 0 where it is refused.
 #[no_mangle]
-pub extern "C" fn qcow2_geometry(
+pub extern "C" fn qcow2_backed_geometry(
     image: &[u8],
+    backing: &[u8],
     cluster_bits: &mut u64,
     size: &mut u64,
     clusters: &mut u64,
 ) -> u32
-    ensures { λ r. ⌜ (r ≡ judge (now (image .entry))) × ((now («cluster_bits» .exit) ≡ (if eqb (judge (now (image .entry))) 0 then clusterBits (now (image .entry)) else 0)) × ((now (size .exit) ≡ (if eqb (judge (now (image .entry))) 0 then diskSize (now (image .entry)) else 0)) × (now (clusters .exit) ≡ (if eqb (judge (now (image .entry))) 0 then clustersOf (now (image .entry)) else 0)))) ⌝ }
+    ensures { λ r. ⌜ (r ≡ judge (now (backing .entry)) (now (image .entry))) × ((now («cluster_bits» .exit) ≡ (if eqb (judge (now (backing .entry)) (now (image .entry))) 0 then clusterBits (now (image .entry)) else 0)) × ((now (size .exit) ≡ (if eqb (judge (now (backing .entry)) (now (image .entry))) 0 then diskSize (now (image .entry)) else 0)) × (now (clusters .exit) ≡ (if eqb (judge (now (backing .entry)) (now (image .entry))) 0 then clustersOf (now (image .entry)) else 0)))) ⌝ }
 {
-    let j = qcow2_header::judge(image);
+    let j = qcow2_header::judge_over(image, backing);
     match j {
         Judged::Refused(k) => {
             *cluster_bits = 0;
@@ -164,46 +184,69 @@ pub extern "C" fn qcow2_geometry(
     }
 }
 
+// Where the backing file's name stands and how many bytes it has; both 0 where there is none or the image is refused.
+#[no_mangle]
+pub extern "C" fn qcow2_backing_name(image: &[u8], at: &mut u64, len: &mut u64) -> u32
+    ensures { λ r. ⌜ (r ≡ judgeLent true (now (image .entry))) × ((now (at .exit) ≡ (if eqb (judgeLent true (now (image .entry))) 0 then backingOffset (now (image .entry)) else 0)) × (now (len .exit) ≡ (if eqb (judgeLent true (now (image .entry))) 0 then shownLength (now (image .entry)) else 0))) ⌝ }
+{
+    let j = qcow2_header::judge(image, true);
+    match j {
+        Judged::Refused(k) => {
+            *at = 0;
+            *len = 0;
+            k as u32
+        }
+        Judged::Accepted(g) => {
+            *at = qcow2_backing::name_at(image, g);
+            *len = qcow2_backing::name_len(image, g);
+            0
+        }
+    }
+}
+
 // The steps of a write that is to be made, four numbers each.
 #[no_mangle]
-pub extern "C" fn qcow2_write_steps(
+pub extern "C" fn qcow2_backed_write_steps(
     image: &[u8],
+    backing: &[u8],
     offset: u64,
     len: u64,
     rows: &mut [u64],
     count: &mut u64,
 ) -> u32
-    ensures { λ r. ⌜ ((d : List ℕ) → length d ≡ len → ((r ≡ listedCode (listSteps (now (image .entry)) (writePlan (now (image .entry)) offset d) (length (now (rows .entry))))) × (now (count .exit) ≡ listedRows (listSteps (now (image .entry)) (writePlan (now (image .entry)) offset d) (length (now (rows .entry)))))) × (now (rows .exit) ≡ stepsInto (now (image .entry)) (writePlan (now (image .entry)) offset d) (now (rows .entry)))) ⌝ }
+    ensures { λ r. ⌜ ((d : List ℕ) → length d ≡ len → ((r ≡ listedCode (listSteps (now (image .entry)) (writePlan (now (backing .entry)) (now (image .entry)) offset d) (length (now (rows .entry))))) × (now (count .exit) ≡ listedRows (listSteps (now (image .entry)) (writePlan (now (backing .entry)) (now (image .entry)) offset d) (length (now (rows .entry)))))) × (now (rows .exit) ≡ stepsInto (now (image .entry)) (writePlan (now (backing .entry)) (now (image .entry)) offset d) (now (rows .entry)))) ⌝ }
 {
-    let l = qcow2_steps::write_steps(image, offset, len, rows);
+    let l = qcow2_steps::write_steps(image, backing, offset, len, rows);
     *count = qcow2_codes::listed_rows(l);
     qcow2_codes::listed_code(l)
 }
 
 #[no_mangle]
-pub extern "C" fn qcow2_discard_steps(
+pub extern "C" fn qcow2_backed_discard_steps(
     image: &[u8],
+    backing: &[u8],
     cluster: u64,
     rows: &mut [u64],
     count: &mut u64,
 ) -> u32
-    ensures { λ r. ⌜ ((r ≡ listedCode (listSteps (now (image .entry)) (discardPlan (now (image .entry)) cluster) (length (now (rows .entry))))) × (now (count .exit) ≡ listedRows (listSteps (now (image .entry)) (discardPlan (now (image .entry)) cluster) (length (now (rows .entry)))))) × (now (rows .exit) ≡ stepsInto (now (image .entry)) (discardPlan (now (image .entry)) cluster) (now (rows .entry))) ⌝ }
+    ensures { λ r. ⌜ ((r ≡ listedCode (listSteps (now (image .entry)) (discardPlan (now (backing .entry)) (now (image .entry)) cluster) (length (now (rows .entry))))) × (now (count .exit) ≡ listedRows (listSteps (now (image .entry)) (discardPlan (now (backing .entry)) (now (image .entry)) cluster) (length (now (rows .entry)))))) × (now (rows .exit) ≡ stepsInto (now (image .entry)) (discardPlan (now (backing .entry)) (now (image .entry)) cluster) (now (rows .entry))) ⌝ }
 {
-    let l = qcow2_steps::discard_steps(image, cluster, rows);
+    let l = qcow2_steps::discard_steps(image, backing, cluster, rows);
     *count = qcow2_codes::listed_rows(l);
     qcow2_codes::listed_code(l)
 }
 
 #[no_mangle]
-pub extern "C" fn qcow2_repair_steps(
+pub extern "C" fn qcow2_backed_repair_steps(
     image: &[u8],
+    backing: &[u8],
     scratch: &mut [u8],
     rows: &mut [u64],
     count: &mut u64,
 ) -> u32
-    ensures { λ r. ⌜ ((r ≡ listedCode (listSteps (now (image .entry)) (repairPlan (now (image .entry)) (length (now (scratch .entry)))) (length (now (rows .entry))))) × (now (count .exit) ≡ listedRows (listSteps (now (image .entry)) (repairPlan (now (image .entry)) (length (now (scratch .entry)))) (length (now (rows .entry)))))) × ((now (rows .exit) ≡ stepsInto (now (image .entry)) (repairPlan (now (image .entry)) (length (now (scratch .entry)))) (now (rows .entry))) × (now (scratch .exit) ≡ scratchLeft (now (image .entry)) (now (scratch .entry)))) ⌝ }
+    ensures { λ r. ⌜ ((r ≡ listedCode (listSteps (now (image .entry)) (repairPlan (now (backing .entry)) (now (image .entry)) (length (now (scratch .entry)))) (length (now (rows .entry))))) × (now (count .exit) ≡ listedRows (listSteps (now (image .entry)) (repairPlan (now (backing .entry)) (now (image .entry)) (length (now (scratch .entry)))) (length (now (rows .entry)))))) × ((now (rows .exit) ≡ stepsInto (now (image .entry)) (repairPlan (now (backing .entry)) (now (image .entry)) (length (now (scratch .entry)))) (now (rows .entry))) × (now (scratch .exit) ≡ scratchLeft (now (backing .entry)) (now (image .entry)) (now (scratch .entry)))) ⌝ }
 {
-    let l = qcow2_steps::repair_steps(image, scratch, rows);
+    let l = qcow2_steps::repair_steps(image, backing, scratch, rows);
     *count = qcow2_codes::listed_rows(l);
     qcow2_codes::listed_code(l)
 }

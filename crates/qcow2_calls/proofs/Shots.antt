@@ -8,14 +8,14 @@ use lib.ListN.{length}
 use Rattle.qcow2_spec.specs.declared.Geometry.{Geometry}
 use Rattle.qcow2_spec.specs.Header.{roots}
 use Rattle.qcow2_spec.specs.Opened.{Active}
-use Rattle.qcow2_spec.specs.Guest.{outside, readNumber, readInto}
+use Rattle.qcow2_spec.specs.Guest.{outside, rangeNumber, rangeInto}
 use Rattle.qcow2_spec.proofs.Facts.{facts, root-count}
 use Rattle.qcow2_guest.proofs.Numbers.{into-refused}
 
 module _ (g : Geometry) (s : List ℕ) (o : Active g s) (k x : ℕ) (h : g .snapshots ≤ k) where
-  pub shot-none : (len : ℕ) → readNumber s (suc k) x len ≡ 11
-  unfolding readNumber outside
-  shot-none len = rw (o .0 .accepted, le-leb (roots s) (suc k) (omega (arith, root-count s (facts s (o .0 .accepted)), o .0 .is-snapshots)))
+  pub shot-none : (len : ℕ) → rangeNumber s (suc k) x len ≡ 11
+  unfolding rangeNumber outside
+  shot-none len = rw (le-leb (roots s) (suc k) (omega (arith, root-count s (facts s (o .0 .accepted)), o .0 .is-snapshots)))
 
-  pub shot-kept : (out : List ℕ) → readInto s (suc k) x out ≡ out
-  shot-kept out = into-refused s (suc k) x out (λ z. let e : _≡_ {A = ℕ} 11 0 = sym (shot-none (length out)) ∙ z in omega arith)
+  pub shot-kept : (backing out : List ℕ) → rangeInto backing s (suc k) x out ≡ out
+  shot-kept backing out = into-refused backing s (suc k) x out (λ z. let e : _≡_ {A = ℕ} 11 0 = sym (shot-none (length out)) ∙ z in omega arith)

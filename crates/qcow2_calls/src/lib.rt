@@ -4,29 +4,43 @@ ghost use Prim.Native.Nat.{suc};
 ghost use lib.ListN.{length};
 ghost use Rattle.units.specs.Plan.{Done};
 ghost use Rattle.qcow2_spec.specs.Opened.{Active};
-ghost use Rattle.qcow2_spec.specs.Guest.{readNumber, readInto};
-ghost use Rattle.qcow2_spec.specs.Store.{writePlan, discardPlan};
-ghost use Rattle.qcow2_spec.specs.References.{scratchLeft};
-ghost use Rattle.qcow2_spec.specs.Check.{check as checked, repairPlan};
+ghost use Rattle.qcow2_spec.specs.Guest.{rangeNumber, rangeInto};
+ghost use Rattle.qcow2_spec.specs.Store.{clearing, writeList, discardList};
+ghost use Rattle.qcow2_spec.specs.References.{scratchCounted};
+ghost use Rattle.qcow2_spec.specs.Check.{checked, repairList};
 use qcow2_spec::Geometry;
 use qcow2_spec::Verdict;
 use units::Outcome;
 
 // The bytes that a snapshot keeps: those of the disk that its L1 table reaches.
-pub fn read_snapshot(image: &[u8], g: Geometry, snapshot: u64, x: u64, out: &mut [u8]) -> u8
+pub fn read_snapshot(
+    image: &[u8],
+    backing: &[u8],
+    g: Geometry,
+    snapshot: u64,
+    x: u64,
+    out: &mut [u8],
+) -> u8
     requires { ⌜ Active g (now image) ⌝ }
-    ensures { λ r. ⌜ (r ≡ readNumber (now (image .entry)) (suc snapshot) x (length (now (out .entry)))) × (now (out .exit) ≡ readInto (now (image .entry)) (suc snapshot) x (now (out .entry))) ⌝ }
+    ensures { λ r. ⌜ (r ≡ rangeNumber (now (image .entry)) (suc snapshot) x (length (now (out .entry)))) × (now (out .exit) ≡ rangeInto (now (backing .entry)) (now (image .entry)) (suc snapshot) x (now (out .entry))) ⌝ }
 {
     if g.snapshots as u64 <= snapshot {
         return 11;
     }
     let root = qcow2_snapshots::snapshot_root(image, g, snapshot as usize);
-    qcow2_read::read_into(image, root, x, out)
+    qcow2_read::read_into(image, backing, root, x, out)
 }
 
-pub fn write(image: &mut [u8], g: Geometry, x: u64, src: &[u8], allowance: usize) -> Outcome
+pub fn write(
+    image: &mut [u8],
+    backing: &[u8],
+    g: Geometry,
+    x: u64,
+    src: &[u8],
+    allowance: usize,
+) -> Outcome
     requires { ⌜ Active g (now image) ⌝ }
-    ensures { λ r. ⌜ Done (writePlan (now (image .entry)) x (now (src .entry))) allowance (now (image .entry)) r (now (image .exit)) ⌝ }
+    ensures { λ r. ⌜ Done (clearing (now (image .entry)) (writeList (now (backing .entry)) (now (image .entry)) x (now (src .entry)))) allowance (now (image .entry)) r (now (image .exit)) ⌝ }
 {
     let len = src.len() as u64;
     if qcow2_own::past_write(g, x, len) {
@@ -38,12 +52,12 @@ pub fn write(image: &mut [u8], g: Geometry, x: u64, src: &[u8], allowance: usize
     let guest = power::quotient(x, g.bits);
     let way = qcow2_own::own_way(image, g, guest);
     let o = power::rest(x, g.bits);
-    qcow2_write::write_way(image, g, way, guest, src, o as usize, allowance)
+    qcow2_write::write_way(image, g, way, guest, backing, src, o as usize, allowance)
 }
 
 pub fn discard(image: &mut [u8], g: Geometry, guest: u64, allowance: usize) -> Outcome
     requires { ⌜ Active g (now image) ⌝ }
-    ensures { λ r. ⌜ Done (discardPlan (now (image .entry)) guest) allowance (now (image .entry)) r (now (image .exit)) ⌝ }
+    ensures { λ r. ⌜ Done (clearing (now (image .entry)) (discardList (now (image .entry)) guest)) allowance (now (image .entry)) r (now (image .exit)) ⌝ }
 {
     // the product of guest and the cluster size is not formed, since it could wrap
     if qcow2_own::disk_clusters(g.size, g.bits) <= guest {
@@ -55,7 +69,7 @@ pub fn discard(image: &mut [u8], g: Geometry, guest: u64, allowance: usize) -> O
 
 pub fn check(image: &[u8], scratch: &mut [u8], g: Geometry) -> Verdict
     requires { ⌜ Active g (now image) ⌝ }
-    ensures { λ r. ⌜ (r ≡ checked (now (image .entry)) (length (now (scratch .entry)))) × (now (scratch .exit) ≡ scratchLeft (now (image .entry)) (now (scratch .entry))) ⌝ }
+    ensures { λ r. ⌜ (r ≡ checked (now (image .entry)) (length (now (scratch .entry)))) × (now (scratch .exit) ≡ scratchCounted (now (image .entry)) (now (scratch .entry))) ⌝ }
 {
     if scratch.len() / 2 < g.clusters {
         return Verdict::Refused(15);
@@ -65,7 +79,7 @@ pub fn check(image: &[u8], scratch: &mut [u8], g: Geometry) -> Verdict
 
 pub fn repair(image: &mut [u8], scratch: &mut [u8], g: Geometry, allowance: usize) -> Outcome
     requires { ⌜ Active g (now image) ⌝ }
-    ensures { λ r. ⌜ Done (repairPlan (now (image .entry)) (length (now (scratch .entry)))) allowance (now (image .entry)) r (now (image .exit)) × (now (scratch .exit) ≡ scratchLeft (now (image .entry)) (now (scratch .entry))) ⌝ }
+    ensures { λ r. ⌜ Done (clearing (now (image .entry)) (repairList (now (image .entry)) (length (now (scratch .entry))))) allowance (now (image .entry)) r (now (image .exit)) × (now (scratch .exit) ≡ scratchCounted (now (image .entry)) (now (scratch .entry))) ⌝ }
 {
     if g.clusters > scratch.len() / 2 {
         return Outcome::Refused(15);

@@ -2,6 +2,7 @@
 -- Assumes nothing.
 use Prim.Native.Nat.{ℕ, suc, _+_, _-_, _*_, _/_, _%_, _^_, _≤_, _<_, min}
 use mathlib.Core.Path.{_≡_, refl, sym, ap, _∙_}
+use mathlib.Core.Bool.{true}
 use mathlib.Core.List.{List}
 use native.Mathlib.Nat.{mul-le-mul-left, add-zero, zero-add, one-mul, mod-lt, div-add-mod', mul-add, add-mul, suc-mul, mul-add-div-right, mul-add-mod-self-right, div-eq-of-lt, mod-eq-of-lt, le-div-iff-mul-le}
 use native.Mathlib.Omega.{arith}
@@ -13,7 +14,7 @@ use Rattle.choice.proofs.Searches.{count-same}
 use Rattle.widths.specs.Width.{number, Inside}
 use Rattle.widths.proofs.Cells.{number-part, aligned-next, inside-next, inside-first}
 use Rattle.packed.specs.Packed.{packed, zeroAt}
-use Rattle.qcow2_spec.specs.Header.{width, perBlock, blocks, blockAt, judge}
+use Rattle.qcow2_spec.specs.Header.{width, perBlock, blocks, blockAt, judgeLent}
 use Rattle.qcow2_spec.proofs.Facts.{facts, block-aligned}
 use Rattle.qcow2_spec.specs.Counts.{countOf, countAt, freeAt}
 use Rattle.qcow2_spec.specs.Opened.{Opened}
@@ -91,7 +92,7 @@ module _ {g : Geometry} {s : List ℕ} (o : Opened g s) (per : ℕ) (e : per ≡
         stands = λ j l. rw f (block-stands s (2 ^ g .order) per b j at (o .is-width) per-is a (omega arith));
       }
     where
-      whole-block : judge s ≡ 0 → (i : ℕ) → i < blocks s → 8 * blockAt s i % 2 ^ g .order ≡ 0
+      whole-block : judgeLent true s ≡ 0 → (i : ℕ) → i < blocks s → 8 * blockAt s i % 2 ^ g .order ≡ 0
       whole-block acc i l = rw (o .is-width) (block-aligned s (facts s acc) i l)
 
 pub next-block : (b per N k m : ℕ) → k ≡ min (b * per) N → k < N → m ≡ min per (N - k) → k + m ≡ min ((b + 1) * per) N

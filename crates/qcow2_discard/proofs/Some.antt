@@ -7,5 +7,5 @@ use Rattle.qcow2_jobs.specs.declared.releasing.Freed.{Freed}
 use Rattle.qcow2_jobs.specs.declared.releasing.Freed.the-variants.{Entry, Both}
 
 pub freed-some : (f : Freed) → 0 < length (freedUnits f)
-freed-some (Entry a) = omega arith
-freed-some (Both a r k v) = omega arith
+freed-some (Entry a x) = omega arith
+freed-some (Both a x r k v) = omega arith

@@ -16,28 +16,29 @@ use qcow2_spec::Geometry;
 use qcow2_spec::Way;
 use units::Outcome;
 
-// The entry at a place is cleared.
-fn put_cleared(image: &mut [u8], at: usize, allowance: usize) -> Outcome
+// The entry at a place becomes a number.
+fn put_cleared(image: &mut [u8], at: usize, value: u64, allowance: usize) -> Outcome
     requires { ⌜ at + 8 ≤ length (now image) ⌝ }
-    ensures { λ r. ⌜ Done (planned (entry at 0 ∷ [])) allowance (now (image .entry)) r (now (image .exit)) ⌝ }
+    ensures { λ r. ⌜ Done (planned (entry at value ∷ [])) allowance (now (image .entry)) r (now (image .exit)) ⌝ }
 {
-    units::store_entry(image, at, 0, allowance);
+    units::store_entry(image, at, value, allowance);
     units::end_of(1, allowance)
 }
 
-// The entry at a place is cleared, then a count becomes n: cut between the two, the cluster leaks and nothing is lost.
+// The entry at a place becomes a number, then a count becomes n: cut between the two, the cluster leaks and nothing is lost.
 fn put_counted(
     image: &mut [u8],
     at: usize,
+    value: u64,
     order: u32,
     count_at: usize,
     n: u64,
     allowance: usize,
 ) -> Outcome
     requires { ⌜ (at + 8 ≤ length (now image)) × Inside order (length (now image)) «count_at» ⌝ }
-    ensures { λ r. ⌜ Done (planned (entry at 0 ∷ count (2 ^ order) «count_at» n ∷ [])) allowance (now (image .entry)) r (now (image .exit)) ⌝ }
+    ensures { λ r. ⌜ Done (planned (entry at value ∷ count (2 ^ order) «count_at» n ∷ [])) allowance (now (image .entry)) r (now (image .exit)) ⌝ }
 {
-    let clear = Cell::Entry(at, 0);
+    let clear = Cell::Entry(at, value);
     let lower = Cell::Count(order, count_at, n);
     qcow2_put::linking::put_two(image, clear, lower, allowance);
     units::end_of(2, allowance)
@@ -49,8 +50,16 @@ fn put_freed(image: &mut [u8], freed: Freed, left: usize) -> Outcome
     ensures { λ r. ⌜ Done (planned (freedUnits freed)) left (now (image .entry)) r (now (image .exit)) ⌝ }
 {
     match freed {
-        Freed::Entry(at) => put_cleared(image, at, left),
-        Freed::Both(at, order, count_at, n) => put_counted(image, at, order, count_at, n, left),
+        Freed::Entry(at, value) => put_cleared(image, at, value, left),
+        Freed::Both(at, value, order, count_at, n) => put_counted(
+            image,
+            at,
+            value,
+            order,
+            count_at,
+            n,
+            left,
+        ),
     }
 }
 

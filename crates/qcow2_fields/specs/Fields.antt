@@ -31,6 +31,7 @@ pub record Read (g : Geometry) (s : List ℕ) : Type 0 where
   pub is : g ≡ geometry s 0
   pub low : 9 ≤ g .bits
   pub high : g .bits ≤ mostBits
+  pub long : 512 ≤ length s
   pub short : length s ≤ mostLength
   pub room : 2 ^ g .bits ≤ length s
   pub few : g .l1size < 4294967296

@@ -37,9 +37,6 @@ pub fn has_extras(image: &[u8]) -> bool
     requires { ⌜ 512 ≤ length (now image) ⌝ }
     ensures { λ r. ⌜ r ≡ unsupported (now (image .entry)) ⌝ }
 {
-    if endian::load64(image, 8) != 0 {
-        return true;
-    }
     if endian::load32(image, 32) != 0 {
         return true;
     }
@@ -103,5 +100,6 @@ pub fn gather(image: &[u8]) -> Geometry
         blocks: block_count(n, bits, order) as usize,
         snapshots: endian::load32(image, 60) as usize,
         snapshotsat: endian::load64(image, 64) as usize,
+        backed: endian::load64(image, 8) != 0,
     }
 }

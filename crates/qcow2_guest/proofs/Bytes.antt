@@ -6,27 +6,30 @@ use native.Mathlib.Omega.{arith}
 use mathlib.Core.Path.{_≡_, refl, sym, _∙_}
 use mathlib.Core.Bool.{Bool, true, false}
 use mathlib.Core.List.{List}
-use borrow.Author.Tests.{eq-eqb, ne-eqb}
-use lib.ListN.{length, drop, replicate, length-drop, length-replicate, getD-replicate}
+use borrow.Author.Tests.{ne-eqb}
+use lib.ListN.{length, drop, replicate, length-drop}
 use lib.Seq.{length-take-le}
+use Rattle.choice.specs.Pick.{each}
 use Rattle.endian.specs.Big.{be64, part, splice}
 use Rattle.qcow2_spec.specs.Header.{version, clusterSize, perTable}
-use Rattle.qcow2_spec.specs.Entries.{place, goodL1}
-use Rattle.qcow2_spec.specs.Guest.{l1Entry, l1EntryAt, entryWay, l2Way, way, wayGives, located, foundByte, guestByte, guestBytes}
+use Rattle.qcow2_spec.specs.Entries.{place, goodPlace, goodL1}
+use Rattle.qcow2_spec.specs.Guest.{l1Entry, l1EntryAt, entryWay, l2Way, way, wayGives, located, backingByte, foundByte, guestByte, guestBytes}
 use Rattle.qcow2_spec.specs.Runs.{moved}
 use Rattle.qcow2_spec.specs.Opened.{Opened}
 use Rattle.qcow2_spec.specs.declared.Geometry.{Geometry}
 use Rattle.qcow2_spec.specs.declared.Found.{Found}
 use Rattle.qcow2_spec.specs.declared.Found.the-variants.{Host, Zeros, Absent, Refused}
+use Rattle.qcow2_spec.specs.declared.Way.the-variants.{Bad, NoTable}
 use Rattle.qcow2_spec.proofs.Facts.{Facts, facts, c-pos, e-pos}
 use Rattle.qcow2_spec.proofs.Refers.{placed1}
 use Rattle.qcow2_spec.proofs.Numbers.{part8}
 use Rattle.qcow2_plain.specs.Plain.{bare, plain}
+use Rattle.qcow2_plain.proofs.Plain.{empty-row}
 use Rattle.qcow2_found.specs.Entry.{entryFound}
-use Rattle.qcow2_found.proofs.Marked.{entry-way, found-plain, found-other}
+use Rattle.qcow2_found.proofs.Marked.{entry-way, found-plain, found-other, found-empty, found-filled}
 use Rattle.qcow2_guest.specs.Rows.{Below, Lent, tableOf, rowLeft}
 use Rattle.qcow2_guest.proofs.Numbers.{div-mono}
-use Rattle.qcow2_guest.proofs.Pieces.{same-cluster, written}
+use Rattle.qcow2_guest.proofs.Pieces.{same-cluster, blank, absent}
 
 -- ---- a later part
 pub below-from : (s : List ℕ) (r t x n a m : ℕ) → a + m ≤ n → Below s r t x n → Below s r t (x + a) m
@@ -51,12 +54,12 @@ below-lent s r t x n C c b = record {
 }
 
 -- ---- a piece whose L2 entry e is in the lent table l
-no-host : (s : List ℕ) (f : Found) → ((k : ℕ) → f ≡ Host k → ⊥) → (j : ℕ) → foundByte s (moved f j) ≡ 0
+no-byte : (backing s : List ℕ) (x : ℕ) (f : Found) → ((k : ℕ) → f ≡ Host k → ⊥) → (f ≡ Absent → ⊥) → (j : ℕ) → foundByte backing s x (moved f j) ≡ 0
 unfolding foundByte
-no-host s (Host h) n j = absurd (n h refl)
-no-host s Zeros n j = refl
-no-host s Absent n j = refl
-no-host s (Refused k) n j = refl
+no-byte backing s x (Host h) n z j = absurd (n h refl)
+no-byte backing s x Zeros n z j = refl
+no-byte backing s x Absent n z j = absurd (z refl)
+no-byte backing s x (Refused k) n z j = refl
 
 module _ (g : Geometry) (s l : List ℕ) (o : Opened g s) (x : ℕ) (b : Lent s (g .root) l x 1) (i e : ℕ) (p : i ≡ x / 2 ^ g .bits % 2 ^ (g .bits - 3)) (q : e ≡ be64 l (8 * i)) where
   entry-found : located s (g .root) x ≡ entryFound (version s) (2 ^ g .bits) (length s) e (x % 2 ^ g .bits)
@@ -65,8 +68,13 @@ module _ (g : Geometry) (s l : List ℕ) (o : Opened g s) (x : ℕ) (b : Lent s 
   pub plain-found : plain (2 ^ g .bits) (length s) e ≡ true → located s (g .root) x ≡ Host (bare e + x % 2 ^ g .bits)
   plain-found h = entry-found ∙ found-plain (version s) (g .bits) (length s) e (x % 2 ^ g .bits) (o .low) (o .short) h
 
-  pub other-found : plain (2 ^ g .bits) (length s) e ≡ false → (j : ℕ) → foundByte s (moved (located s (g .root) x) j) ≡ 0
-  other-found h = no-host s (located s (g .root) x) (λ k y. found-other (version s) (2 ^ g .bits) (length s) e (x % 2 ^ g .bits) k h (sym entry-found ∙ y))
+  pub empty-found : e ≡ 0 → located s (g .root) x ≡ Absent
+  empty-found z = entry-found ∙ found-empty (version s) (2 ^ g .bits) (length s) e (x % 2 ^ g .bits) z
+
+  pub other-found : plain (2 ^ g .bits) (length s) e ≡ false → (e ≡ 0 → ⊥) → (backing : List ℕ) (j : ℕ) → foundByte backing s (x + j) (moved (located s (g .root) x) j) ≡ 0
+  other-found h z backing j =
+      no-byte backing s (x + j) (located s (g .root) x) (λ k y. found-other (version s) (2 ^ g .bits) (length s) e (x % 2 ^ g .bits) k h (sym entry-found ∙ y))
+      (λ y. found-filled (version s) (2 ^ g .bits) (length s) e (x % 2 ^ g .bits) z (sym entry-found ∙ y)) j
 
 -- ---- the same for the table at t
 module _ (g : Geometry) (s : List ℕ) (o : Opened g s) (t x : ℕ) (b : Below s (g .root) t x 1) (i e : ℕ) (p : i ≡ x / 2 ^ g .bits % 2 ^ (g .bits - 3)) (q : e ≡ be64 s (t + 8 * i)) where
@@ -100,35 +108,33 @@ later-cluster C E x i c e h =
     let k : q + (y - q) ≡ y = omega arith in
     rw (← k) (same-cluster E q (y - q) (omega (arith, high, r, low)))
 
--- the way by the place of the L2 table
-module _ (s : List ℕ) (f : Facts s) (r guest : ℕ) where
-  abbrev e : ℕ
-  e = l1Entry s r guest
+-- the way by the place of the L2 table that the L1 entry e names
+module _ (s : List ℕ) (r guest e : ℕ) (q : l1Entry s r guest ≡ e) where
+  abbrev t : ℕ
+  t = tableOf (clusterSize s) (length s) e
 
-  table-way : (tableOf s r guest ≡ 0 → ⊥) → (way s r guest ≡ l2Way s (tableOf s r guest) (guest % perTable s)) × (tableOf s r guest + clusterSize s ≤ length s)
+  table-way : Facts s → (t ≡ 0 → ⊥) → (way s r guest ≡ l2Way s t (guest % perTable s)) × (t + clusterSize s ≤ length s)
   unfolding tableOf way
-  table-way z = go (goodL1 (clusterSize s) (length s) e) refl
+  table-way f z = go (goodL1 (clusterSize s) (length s) e) refl
     where
-      go : (b : Bool) → goodL1 (clusterSize s) (length s) e ≡ b → (way s r guest ≡ l2Way s (tableOf s r guest) (guest % perTable s)) × (tableOf s r guest + clusterSize s ≤ length s)
-      go true t =
-          let p : tableOf s r guest ≡ place e = rw t in
-          (rw (t, ne-eqb (place e) 0 (λ y. z (p ∙ y))), rw t (placed1 s f e t .inside))
-      go false t = absurd (z (rw t))
+      go : (b : Bool) → goodL1 (clusterSize s) (length s) e ≡ b → (way s r guest ≡ l2Way s t (guest % perTable s)) × (t + clusterSize s ≤ length s)
+      go true h =
+          let p : t ≡ place e = rw h in
+          (rw (q, h, ne-eqb (place e) 0 (λ y. z (p ∙ y))), rw h (placed1 s f e h .inside))
+      go false h = absurd (z (rw h))
 
-  table-none : tableOf s r guest ≡ 0 → (x k : ℕ) → wayGives (way s r guest) x ≡ Host k → ⊥
-  unfolding tableOf way wayGives
-  table-none z x k = go (goodL1 (clusterSize s) (length s) e) refl
+  -- none is named, or the entry is bad
+  way-none : e ≡ 0 → way s r guest ≡ NoTable
+  unfolding way goodL1 goodPlace place
+  way-none z = rw (q, z)
+
+  way-bad : (e ≡ 0 → ⊥) → t ≡ 0 → way s r guest ≡ Bad 12
+  unfolding tableOf way
+  way-bad n z = go (goodL1 (clusterSize s) (length s) e) refl
     where
-      go : (b : Bool) → goodL1 (clusterSize s) (length s) e ≡ b → wayGives (way s r guest) x ≡ Host k → ⊥
-      go true t y = let p : place e ≡ 0 = rw t at z in let d : Absent ≡ Host k = rw (t, eq-eqb (place e) 0 p) at y in let w : _≡_ {A = ℕ} 0 1 = cc in omega arith
-      go false t y = let d : Refused 12 ≡ Host k = rw t at y in let w : _≡_ {A = ℕ} 0 1 = cc in omega arith
-
-no-byte : (s : List ℕ) (f : Found) → ((k : ℕ) → f ≡ Host k → ⊥) → foundByte s f ≡ 0
-unfolding foundByte
-no-byte s (Host h) n = absurd (n h refl)
-no-byte s Zeros n = refl
-no-byte s Absent n = refl
-no-byte s (Refused k) n = refl
+      go : (b : Bool) → goodL1 (clusterSize s) (length s) e ≡ b → way s r guest ≡ Bad 12
+      go true h = let p : place e ≡ 0 = rw h at z in absurd (n (empty-row (clusterSize s) (length s) e h p))
+      go false h = rw (q, h)
 
 module _ (g : Geometry) (s : List ℕ) (o : Opened g s) (x n : ℕ) (h : n ≤ rowLeft (2 ^ g .bits) (2 ^ (g .bits - 3)) x) where
   pub same-row : (i : ℕ) → i < n → l1Entry s (g .root) ((x + i) / clusterSize s) ≡ l1Entry s (g .root) (x / clusterSize s)
@@ -138,43 +144,39 @@ module _ (g : Geometry) (s : List ℕ) (o : Opened g s) (x n : ℕ) (h : n ≤ r
       let k : n ≤ rowLeft (clusterSize s) (perTable s) x = rw (o .is-cluster, o .is-per) at h in
       rw (later-cluster (clusterSize s) (perTable s) x i (c-pos s f) (e-pos s f) (omega arith))
 
-  same-table : (i : ℕ) → i < n → tableOf s (g .root) ((x + i) / clusterSize s) ≡ tableOf s (g .root) (x / clusterSize s)
-  unfolding tableOf
-  same-table i l = rw (same-row i l)
+  -- their L1 entry e
+  module _ (e : ℕ) (q : e ≡ l1Entry s (g .root) (x / 2 ^ g .bits)) where
+    row-entry : l1Entry s (g .root) (x / clusterSize s) ≡ e
+    row-entry = rw (← o .is-cluster) (sym q)
 
-  -- the L2 table at t, which is not 0
-  module _ (t : ℕ) (d : t ≡ tableOf s (g .root) (x / 2 ^ g .bits)) (z : t ≡ 0 → ⊥) where
-    row-below : Below s (g .root) t x n
-    row-below =
-        let f = facts s (o .accepted) in
-        let p : t ≡ tableOf s (g .root) (x / clusterSize s) = rw (← o .is-cluster) d in
-        let y : tableOf s (g .root) (x / clusterSize s) ≡ 0 → ⊥ = λ u. z (p ∙ u) in
-        rw p (record {
-          inside = table-way s f (g .root) (x / clusterSize s) y .1;
-          ways = λ i l. rw (same-table i l) at (table-way s f (g .root) ((x + i) / clusterSize s) (λ u. y (sym (same-table i l) ∙ u)) .0);
-        })
+    row-own : (i : ℕ) → i < n → l1Entry s (g .root) ((x + i) / clusterSize s) ≡ e
+    row-own i l = same-row i l ∙ row-entry
 
-    pub row-inside : t + 2 ^ g .bits ≤ length s
-    row-inside = rw (o .is-cluster) (row-below .inside)
+    pub row-absent : e ≡ 0 → (backing : List ℕ) → each (backingByte backing s) x n ≡ guestBytes backing s (g .root) x n
+    unfolding located wayGives
+    row-absent z backing = absent backing s (g .root) x n (λ i l. rw (way-none s (g .root) ((x + i) / clusterSize s) e (row-own i l) z))
 
-    pub row-lent : (m : ℕ) → m ≡ 2 ^ g .bits → Lent s (g .root) (part s t m) x n
-    row-lent m e = below-lent s (g .root) t x n m (e ∙ o .is-cluster) row-below
+    -- the L2 table at t
+    module _ (t : ℕ) (d : t ≡ tableOf (2 ^ g .bits) (length s) e) where
+      pub row-blank : (e ≡ 0 → ⊥) → t ≡ 0 → (backing l : List ℕ) → length l ≡ n → splice l 0 (replicate (length l) 0) ≡ guestBytes backing s (g .root) x (length l)
+      unfolding guestByte located wayGives foundByte
+      row-blank y z backing l w =
+          let p : tableOf (clusterSize s) (length s) e ≡ 0 = rw (o .is-cluster) at (sym d ∙ z) in
+          blank backing s (g .root) x l (λ i k. rw (way-bad s (g .root) ((x + i) / clusterSize s) e (row-own i (omega arith)) y p))
 
-  pub row-blank : tableOf s (g .root) (x / 2 ^ g .bits) ≡ 0 → (l : List ℕ) → length l ≡ n → splice l 0 (replicate (length l) 0) ≡ guestBytes s (g .root) x (length l)
-  unfolding guestByte located
-  row-blank z l e =
-      let y : tableOf s (g .root) (x / clusterSize s) ≡ 0 = rw (o .is-cluster) at z in
-      written s (g .root) x l (replicate (length l) 0) (length-replicate (length l) 0) (λ i k. byte y i (omega arith) ∙ sym (getD-replicate (length l) i 0 0 k))
-    where
-      byte : tableOf s (g .root) (x / clusterSize s) ≡ 0 → (i : ℕ) → i < n → guestByte s (g .root) (x + i) ≡ 0
-      byte y i k = no-byte s (located s (g .root) (x + i)) (table-none s (facts s (o .accepted)) (g .root) ((x + i) / clusterSize s) (same-table i k ∙ y) ((x + i) % clusterSize s))
+      module _ (z : t ≡ 0 → ⊥) where
+        row-below : Below s (g .root) t x n
+        row-below =
+            let f = facts s (o .accepted) in
+            let p : t ≡ tableOf (clusterSize s) (length s) e = rw (o .is-cluster) at d in
+            let y : tableOf (clusterSize s) (length s) e ≡ 0 → ⊥ = λ u. z (p ∙ u) in
+            rw p (record {
+              inside = table-way s (g .root) (x / clusterSize s) e row-entry f y .1;
+              ways = λ i l. table-way s (g .root) ((x + i) / clusterSize s) e (row-own i l) f y .0;
+            })
 
--- ---- the place of the L2 table, by the test of the L1 entry e
-module _ (g : Geometry) (s : List ℕ) (o : Opened g s) (guest e : ℕ) (q : e ≡ l1Entry s (g .root) guest) where
-  pub table-good : goodL1 (2 ^ g .bits) (length s) e ≡ true → place e ≡ tableOf s (g .root) guest
-  unfolding tableOf
-  table-good h = let t : goodL1 (clusterSize s) (length s) (l1Entry s (g .root) guest) ≡ true = rw (← o .is-cluster, ← q) h in rw (t, q)
+        pub row-inside : t + 2 ^ g .bits ≤ length s
+        row-inside = rw (o .is-cluster) (row-below .inside)
 
-  pub table-bad : goodL1 (2 ^ g .bits) (length s) e ≡ false → 0 ≡ tableOf s (g .root) guest
-  unfolding tableOf
-  table-bad h = let t : goodL1 (clusterSize s) (length s) (l1Entry s (g .root) guest) ≡ false = rw (← o .is-cluster, ← q) h in rw t
+        pub row-lent : (m : ℕ) → m ≡ 2 ^ g .bits → Lent s (g .root) (part s t m) x n
+        row-lent m w = below-lent s (g .root) t x n m (w ∙ o .is-cluster) row-below

@@ -9,7 +9,7 @@ use borrow.Author.Tests.{eq-eqb, ne-eqb, lt-ltb, le-ltb, lt-leb}
 use lib.ListN.{length}
 use Rattle.choice.proofs.Tests.{if-zero}
 use Rattle.qcow2_spec.specs.Header.{clusterSize, perTable, roots, rootSize}
-use Rattle.qcow2_spec.specs.Guest.{reach, waysNumber, outside, touched, guestBytes, readNumber, readInto}
+use Rattle.qcow2_spec.specs.Guest.{reach, waysNumber, outside, touched, guestBytes, rangeNumber, rangeInto}
 use Rattle.qcow2_spec.specs.Opened.{Opened}
 use Rattle.qcow2_spec.specs.declared.Geometry.{Geometry}
 use Rattle.qcow2_spec.proofs.Facts.{facts, c-pos, e-pos}
@@ -48,17 +48,17 @@ module _ (g : Geometry) (s : List ℕ) (o : Opened g s) where
   row-of guest h = div-lt-iff-lt-mul (e-pos s (facts s (o .accepted))) .1 h
 
   module _ (x len : ℕ) where
-    pub number-offset : g .size < x → readNumber s (g .root) x len ≡ 11
-    unfolding readNumber outside
-    number-offset h = rw (o .accepted, lt-leb (roots s) (g .root) (o .there), ← o .is-size, lt-ltb (g .size) x h)
+    pub number-offset : g .size < x → rangeNumber s (g .root) x len ≡ 11
+    unfolding rangeNumber outside
+    number-offset h = rw (lt-leb (roots s) (g .root) (o .there), ← o .is-size, lt-ltb (g .size) x h)
 
-    pub number-range : x ≤ g .size → g .size - x < len → readNumber s (g .root) x len ≡ 11
-    unfolding readNumber outside
-    number-range h n = rw (o .accepted, lt-leb (roots s) (g .root) (o .there), ← o .is-size, le-ltb (g .size) x h, lt-ltb (g .size - x) len n)
+    pub number-range : x ≤ g .size → g .size - x < len → rangeNumber s (g .root) x len ≡ 11
+    unfolding rangeNumber outside
+    number-range h n = rw (lt-leb (roots s) (g .root) (o .there), ← o .is-size, le-ltb (g .size) x h, lt-ltb (g .size - x) len n)
 
-    pub number-ways : x ≤ g .size → len ≤ g .size - x → readNumber s (g .root) x len ≡ waysNumber s (g .root) (x / 2 ^ g .bits) (touched (2 ^ g .bits) x len)
-    unfolding readNumber outside
-    number-ways h n = rw (o .accepted, lt-leb (roots s) (g .root) (o .there), ← o .is-size, le-ltb (g .size) x h, le-ltb (g .size - x) len n, o .is-cluster)
+    pub number-ways : x ≤ g .size → len ≤ g .size - x → rangeNumber s (g .root) x len ≡ waysNumber s (g .root) (x / 2 ^ g .bits) (touched (2 ^ g .bits) x len)
+    unfolding rangeNumber outside
+    number-ways h n = rw (lt-leb (roots s) (g .root) (o .there), ← o .is-size, le-ltb (g .size) x h, le-ltb (g .size - x) len n, o .is-cluster)
 
     -- the L1 table reaches each guest cluster that the range touches
     pub range-in : x + len ≤ g .size → x / 2 ^ g .bits + touched (2 ^ g .bits) x len ≤ rootSize s (g .root) * perTable s
@@ -67,16 +67,16 @@ module _ (g : Geometry) (s : List ℕ) (o : Opened g s) where
         rw (o .is-cluster) (touched-below (clusterSize s) x len (rootSize s (g .root) * perTable s) (c-pos s f) (omega (arith, reach-in s f (g .root), o .is-size)))
 
     -- an accepted range lies on the disk
-    pub number-fits : readNumber s (g .root) x len ≡ 0 → x + len ≤ reach s (g .root)
-    unfolding readNumber
-    number-fits e = inside s (facts s (o .accepted)) (g .root) x len (if-zero (outside s (g .root) x len) 10 _ (rw (o .accepted) at e) .0) .1
+    pub number-fits : rangeNumber s (g .root) x len ≡ 0 → x + len ≤ reach s (g .root)
+    unfolding rangeNumber
+    number-fits e = inside s (facts s (o .accepted)) (g .root) x len (if-zero (outside s (g .root) x len) 10 _ e .0) .1
 
 -- ---- what a read leaves in its output
-module _ (s : List ℕ) (r x : ℕ) (out : List ℕ) where
-  pub into-refused : (readNumber s r x (length out) ≡ 0 → ⊥) → readInto s r x out ≡ out
-  unfolding readInto
-  into-refused h = rw (ne-eqb (readNumber s r x (length out)) 0 h)
+module _ (backing s : List ℕ) (r x : ℕ) (out : List ℕ) where
+  pub into-refused : (rangeNumber s r x (length out) ≡ 0 → ⊥) → rangeInto backing s r x out ≡ out
+  unfolding rangeInto
+  into-refused h = rw (ne-eqb (rangeNumber s r x (length out)) 0 h)
 
-  pub into-done : readNumber s r x (length out) ≡ 0 → readInto s r x out ≡ guestBytes s r x (length out)
-  unfolding readInto
-  into-done h = rw (eq-eqb (readNumber s r x (length out)) 0 h)
+  pub into-done : rangeNumber s r x (length out) ≡ 0 → rangeInto backing s r x out ≡ guestBytes backing s r x (length out)
+  unfolding rangeInto
+  into-done h = rw (eq-eqb (rangeNumber s r x (length out)) 0 h)

@@ -8,7 +8,7 @@ use Rattle.choice.specs.Pick.{if_then_else_}
 use Rattle.endian.specs.Big.{be64}
 use Rattle.qcow2_spec.specs.Header.{version, clusterSize, perTable}
 use Rattle.qcow2_spec.specs.Entries.{place, goodL1}
-use Rattle.qcow2_spec.specs.Guest.{l1Entry, l2Way, way, located}
+use Rattle.qcow2_spec.specs.Guest.{l2Way, way, located}
 use Rattle.qcow2_found.specs.Entry.{entryFound}
 
 -- the ways to the n bytes of the disk from x on all lead through the L2 table at t
@@ -22,9 +22,9 @@ pub record Lent (s : List ℕ) (r : ℕ) (l : List ℕ) (x n : ℕ) : Type 0 whe
   pub finds : (i : ℕ) → i < n
       → located s r (x + i) ≡ entryFound (version s) (clusterSize s) (length s) (be64 l (8 * ((x + i) / clusterSize s % perTable s))) ((x + i) % clusterSize s)
 
--- the place of the L2 table of a guest cluster; 0 where it has none
-unfoldable pub tableOf : List ℕ → (r guest : ℕ) → ℕ
-tableOf s r guest = if goodL1 (clusterSize s) (length s) (l1Entry s r guest) then place (l1Entry s r guest) else 0
+-- the place of the L2 table that L1 entry e names; 0 where it names none
+unfoldable pub tableOf : (C n e : ℕ) → ℕ
+tableOf C n e = if goodL1 C n e then place e else 0
 
 -- the bytes from x on that have its L1 entry, where tables have E entries
 unfoldable pub rowLeft : (C E x : ℕ) → ℕ

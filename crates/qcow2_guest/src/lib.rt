@@ -3,7 +3,7 @@ ghost use mathlib.Core.Path.{_≡_};
 ghost use Prim.Native.Nat.{_+_, _-_, _/_, _%_, _^_, _<_, _≤_, min};
 ghost use lib.ListN.{length};
 ghost use Rattle.qcow2_spec.specs.Header.{mostBits, clusterSize, perTable, rootSize};
-ghost use Rattle.qcow2_spec.specs.Guest.{reach, l1Entry, l2Way, way, located, translate};
+ghost use Rattle.qcow2_spec.specs.Guest.{reach, l1Entry, l2Way, way, located, translated};
 ghost use Rattle.qcow2_spec.specs.Opened.{Opened, Active};
 ghost use Rattle.qcow2_guest.specs.Rows.{rowLeft};
 use qcow2_spec::Found;
@@ -82,7 +82,7 @@ pub fn locate(image: &[u8], g: Geometry, x: u64) -> Found
 // The translation of guest offset x.
 pub fn translated(image: &[u8], g: Geometry, x: u64) -> Found
     requires { ⌜ Active g (now image) ⌝ }
-    ensures { λ r. ⌜ r ≡ translate (now (image .entry)) x ⌝ }
+    ensures { λ r. ⌜ r ≡ translated (now (image .entry)) x ⌝ }
 {
     if g.size <= x {
         return Found::Refused(11);

@@ -1,12 +1,12 @@
 -- Laws of what the header gives.
 -- Assumes nothing.
 use Prim.Native.Nat.{ℕ, zero, suc, _+_, _-_, _*_, _/_, _%_, _^_, _≤_, _<_}
-use native.Mathlib.Nat.{mod-eq-of-lt, mul-left-comm, mul-le-mul-left}
+use native.Mathlib.Nat.{mod-eq-of-lt, mul-left-comm, mul-le-mul-left, div-add-mod'}
 use native.Mathlib.Omega.{arith}
-use mathlib.Core.Path.{_≡_, refl, sym, _∙_}
+use mathlib.Core.Path.{_≡_, refl}
 use mathlib.Core.Bool.{Bool, true, false, not, _||_}
 use mathlib.Core.List.{List}
-use borrow.Author.Tests.{ltb-true, ltb-false}
+use borrow.Author.Tests.{ltb-true, ltb-false, eqb-true, not-false}
 use lib.Dec.{eqb, ltb}
 use lib.ListN.{length, take, drop}
 use Rattle.choice.specs.Pick.{unless}
@@ -20,7 +20,9 @@ use Rattle.qcow2_spec.specs.declared.Geometry.{Geometry}
 use Rattle.qcow2_spec.specs.declared.Judged.{Judged}
 use Rattle.qcow2_spec.specs.declared.Judged.the-variants.{Refused}
 use Rattle.qcow2_limits.specs.Limits.{oversize}
+use Rattle.qcow2_fields.specs.Fields.{Read}
 use Rattle.qcow2_tables.specs.Placing.{misplaced, misplacedTables}
+use Rattle.qcow2_header.specs.Chain.{badEntries, Placed}
 
 -- an image of whole clusters has one
 pub whole-room : (n C : ℕ) → 0 < n → n % C ≡ 0 → C ≤ n
@@ -54,12 +56,11 @@ pub tables-is : (g : Geometry) (s : List ℕ) → g ≡ geometry s 0 → misplac
 unfolding misplacedTables misplaced badTables geometry rootSize rootAt perTable clusterSize
 tables-is g s e = rw e (regroup (not (eqb (l1At s % clusterSize s) 0)) (not (eqb (tableAt s % clusterSize s) 0)) _ _ _)
 
--- the code's C is p
-pub table-told : (g : Geometry) (s : List ℕ) (p : ℕ) {r b : Bool} → g ≡ geometry s 0 → p ≡ 2 ^ g .bits
-    → r ≡ goodTable (2 ^ g .bits) (length s) (g .blocks) (entries (g .tableclusters * (p / 8)) (take (length s - g .tableat) (drop (g .tableat) s)))
-    → r ≡ b → goodTable (clusterSize s) (length s) (blocks s) (table s) ≡ b
-unfolding geometry table perTable clusterSize
-table-told g s p e q f h = rw (part-rest, q, e) at (sym f ∙ h)
+-- the code's C is p, and its table starts at a
+pub entries-is : (g : Geometry) (s : List ℕ) (p a : ℕ) → g ≡ geometry s 0 → p ≡ 2 ^ g .bits → a ≡ g .tableat
+    → not (goodTable (2 ^ g .bits) (length s) (g .blocks) (entries (g .tableclusters * (p / 8)) (take (length s - a) (drop a s)))) ≡ badEntries s
+unfolding badEntries geometry table perTable clusterSize
+entries-is g s p a e q f = rw (part-rest, q, f, e)
 
 pub snapshots-told : (g : Geometry) (s : List ℕ) → g ≡ geometry s 0
     → (clusterSize s ≡ 2 ^ g .bits) × ((g .snapshots ≡ snapshots s) × (g .snapshotsat ≡ snapshotsAt s))
@@ -72,10 +73,15 @@ refused-by zero a h = absurd (h refl)
 refused-by (suc k) a h = refl
 
 -- tables that are well placed
-pub placed : (g : Geometry) (n : ℕ) → misplacedTables g n ≡ false → (g .tableat + g .tableclusters * 2 ^ g .bits ≤ n) × (g .blocks ≤ g .tableclusters * (2 ^ g .bits / 8))
+pub placed : (g : Geometry) (s : List ℕ) → Read g s → misplacedTables g (length s) ≡ false → Placed g s
 unfolding misplacedTables misplaced
-placed g n h =
-    let M : Bool = misplaced (2 ^ g .bits) n (g .tableat) (g .tableclusters * 2 ^ g .bits) in
-    let a = or-false (misplaced (2 ^ g .bits) n (g .l1at) (8 * g .l1size)) _ h in
+placed g s r h =
+    let M : Bool = misplaced (2 ^ g .bits) (length s) (g .tableat) (g .tableclusters * 2 ^ g .bits) in
+    let a = or-false (misplaced (2 ^ g .bits) (length s) (g .l1at) (8 * g .l1size)) _ h in
     let b = or-false M _ (a .1) in
-    (ltb-false _ _ (or-false (not (eqb (g .tableat % 2 ^ g .bits) 0)) _ (b .0) .1), ltb-false _ _ (b .1))
+    let t = or-false (not (eqb (g .tableat % 2 ^ g .bits) 0)) _ (b .0) in
+    record { read = r; whole = eqb-true _ _ (not-false _ (t .0)); fits = ltb-false _ _ (t .1); enough = ltb-false _ _ (b .1) }
+
+-- the refcount table's place as a multiple of the cluster size
+pub place-is : (g : Geometry) (s : List ℕ) (q p : ℕ) → Placed g s → q ≡ g .tableat / 2 ^ g .bits → p ≡ 2 ^ g .bits → q * p ≡ g .tableat
+place-is g s q p h eq ep = rw (eq, ep) (omega (arith, div-add-mod' (g .tableat) (2 ^ g .bits), h .whole))

@@ -2,16 +2,17 @@
 use Prim.Native.Nat.{ℕ, _+_, _-_, _*_, _^_, _≤_, _<_}
 use native.Mathlib.Omega.{arith}
 use mathlib.Core.Path.{_≡_, _∙_}
-use mathlib.Core.Bool.{true, false}
+use mathlib.Core.Bool.{Bool, true, false}
 use mathlib.Core.List.{List}
 use lib.ListN.{length}
 use borrow.Author.Tests.{eq-eqb, ne-eqb, le-leb, lt-leb}
+use Rattle.endian.specs.Big.{splice}
 use Rattle.choice.proofs.Runs.{first-low, first-high}
 use Rattle.widths.specs.Width.{Inside}
 use Rattle.qcow2_spec.specs.Header.{clusters, width}
 use Rattle.qcow2_spec.specs.Entries.{place, zeroMark}
 use Rattle.qcow2_spec.specs.Counts.{countAt, setCount, freeAt, freeFrom}
-use Rattle.qcow2_spec.specs.Store.{allot, writeSlot, writeNew, writeTable, writeWay}
+use Rattle.qcow2_spec.specs.Store.{allot, backingCluster, newBytes, writeSlot, writeNew, writeTable, writeWay}
 use Rattle.qcow2_spec.specs.Opened.{Opened}
 use Rattle.qcow2_spec.specs.Ready.{Slotted}
 use Rattle.qcow2_spec.specs.declared.Geometry.{Geometry}
@@ -35,55 +36,58 @@ pub free-least : (s : List ℕ) (i : ℕ) → i ≤ freeFrom s i
 unfolding freeFrom
 free-least s i = first-low (freeAt s) i (clusters s - i)
 
-module _ (g : Geometry) (s : List ℕ) (o : Opened g s) where
-  -- a new cluster k, or none
-  module _ (at k : ℕ) where
-    pub full : g .clusters ≤ k → Decides (length s) (2 ^ g .bits) (Refuse 14) (writeNew s at k)
+module _ (g : Geometry) (s : List ℕ) (o : Opened g s) (x : ℕ) where
+  -- a new cluster k for guest cluster x, whose entry e stands at a place, or none
+  module _ (at k e : ℕ) where
+    pub full : g .clusters ≤ k → Decides s (2 ^ g .bits) x (Refuse 14) (λ b i d. writeNew s at k (newBytes b s x e i d))
     unfolding writeNew
-    full h = record { same = λ i d. rw (le-leb (clusters s) k (rw (o .is-clusters) at h)); inside = tt }
+    full h = record { same = λ b i d. rw (le-leb (clusters s) k (rw (o .is-clusters) at h)); inside = tt }
 
-    pub newly : (n c : ℕ) → k < g .clusters → at + 8 ≤ length s → n ≡ countAt s k → Inside (g .order) (length s) n → c ≡ 2 ^ g .bits
-        → Decides (length s) (2 ^ g .bits) (Store (New (g .order) n at (k * c))) (writeNew s at k)
-    unfolding writeNew allot setCount
-    newly n c h a e m f =
-        record { same = λ i d. rw (lt-leb (clusters s) k (rw (o .is-clusters) at h), e, f, o .is-cluster, o .is-width); inside = (m, (a, rw (← f) (inside-at g s o k c h f))) }
+    pub newly : (m : Bool) (n c : ℕ) → m ≡ zeroMark e → k < g .clusters → at + 8 ≤ length s → n ≡ countAt s k → Inside (g .order) (length s) n → c ≡ 2 ^ g .bits
+        → Decides s (2 ^ g .bits) x (Store (New m (g .order) n at (k * c))) (λ b i d. writeNew s at k (newBytes b s x e i d))
+    unfolding writeNew newBytes allot setCount
+    newly m n c q h a f i l =
+        record { same = λ b j d. rw (lt-leb (clusters s) k (rw (o .is-clusters) at h), q, f, l, o .is-cluster, o .is-width); inside = (i, (a, rw (← l) (inside-at g s o k c h l))) }
 
   -- a new L2 table t and a new cluster k, or none
-  module _ (x t k : ℕ) where
-    pub full-table : g .clusters ≤ k → Decides (length s) (2 ^ g .bits) (Refuse 14) (writeTable s x t k)
+  module _ (t k : ℕ) where
+    pub full-table : g .clusters ≤ k → Decides s (2 ^ g .bits) x (Refuse 14) (λ b i d. writeTable s x t k (splice (backingCluster b s x) i d))
     unfolding writeTable
-    full-table h = record { same = λ i d. rw (le-leb (clusters s) k (rw (o .is-clusters) at h)); inside = tt }
+    full-table h = record { same = λ b i d. rw (le-leb (clusters s) k (rw (o .is-clusters) at h)); inside = tt }
 
-    pub tabled : (p : Places) → k < g .clusters → p ≡ places s x t k → Linked (length s) p (2 ^ g .bits) → Decides (length s) (2 ^ g .bits) (Store (Table p)) (writeTable s x t k)
+    pub tabled : (p : Places) → k < g .clusters → p ≡ places s x t k → Linked (length s) p (2 ^ g .bits)
+        → Decides s (2 ^ g .bits) x (Store (Table p)) (λ b i d. writeTable s x t k (splice (backingCluster b s x) i d))
     unfolding writeTable tableUnits allot setCount places width
-    tabled p h e l = record { same = λ i d. rw (lt-leb (clusters s) k (rw (o .is-clusters) at h), e, o .is-cluster); inside = l }
+    tabled p h e l = record { same = λ b i d. rw (lt-leb (clusters s) k (rw (o .is-clusters) at h), e, o .is-cluster); inside = l }
 
--- the entry e stands at a place
-module _ (g : Geometry) (s : List ℕ) (at e : ℕ) (o : Slotted g s at e) where
-  pub slot-new : (x : Decision) → place e ≡ 0 → Decides (length s) (2 ^ g .bits) x (writeNew s at (freeFrom s 0)) → Decides (length s) (2 ^ g .bits) x (writeSlot s at e)
+-- the entry e of guest cluster x stands at a place
+module _ (g : Geometry) (s : List ℕ) (at e : ℕ) (o : Slotted g s at e) (x : ℕ) where
+  pub slot-new : (r : Decision) → place e ≡ 0 → Decides s (2 ^ g .bits) x r (λ b i d. writeNew s at (freeFrom s 0) (newBytes b s x e i d))
+      → Decides s (2 ^ g .bits) x r (λ b. writeSlot b s x at e)
   unfolding writeSlot
-  slot-new x z h = record { same = λ i d. rw (eq-eqb (place e) 0 z) (h .same i d); inside = h .inside }
+  slot-new r z h = record { same = λ b i d. rw (eq-eqb (place e) 0 z) (h .same b i d); inside = h .inside }
 
   module _ (p : ℕ) (f : p ≡ place e) (z : p ≡ 0 → ⊥) where
-    pub slot-marked : zeroMark e ≡ true → Decides (length s) (2 ^ g .bits) (Store (Marked at p)) (writeSlot s at e)
+    pub slot-marked : zeroMark e ≡ true → Decides s (2 ^ g .bits) x (Store (Marked at p)) (λ b. writeSlot b s x at e)
     unfolding writeSlot
     slot-marked m =
-        record { same = λ i d. rw (ne-eqb (place e) 0 (λ q. z (f ∙ q)), m, f, o .opened .is-cluster); inside = (o .inside, rw f (placed-at g s at e o .inside)) }
+        record { same = λ b i d. rw (ne-eqb (place e) 0 (λ q. z (f ∙ q)), m, f, o .opened .is-cluster); inside = (o .inside, rw f (placed-at g s at e o .inside)) }
 
-    pub slot-bytes : zeroMark e ≡ false → Decides (length s) (2 ^ g .bits) (Store (Bytes p)) (writeSlot s at e)
+    pub slot-bytes : zeroMark e ≡ false → Decides s (2 ^ g .bits) x (Store (Bytes p)) (λ b. writeSlot b s x at e)
     unfolding writeSlot
-    slot-bytes m = record { same = λ i d. rw (ne-eqb (place e) 0 (λ q. z (f ∙ q)), m, f); inside = rw f (placed-at g s at e o .inside) }
+    slot-bytes m = record { same = λ b i d. rw (ne-eqb (place e) 0 (λ q. z (f ∙ q)), m, f); inside = rw f (placed-at g s at e o .inside) }
 
 -- by the way w to guest cluster x
-module _ (s : List ℕ) (n c : ℕ) (w : Way) (x : ℕ) where
-  pub write-bad : (k : ℕ) → w ≡ Bad k → Decides n c (Refuse k) (writeWay s w x)
+module _ (s : List ℕ) (c : ℕ) (w : Way) (x : ℕ) where
+  pub write-bad : (k : ℕ) → w ≡ Bad k → Decides s c x (Refuse k) (λ b. writeWay b s w x)
   unfolding writeWay
-  write-bad k q = record { same = λ i d. rw q; inside = tt }
+  write-bad k q = record { same = λ b i d. rw q; inside = tt }
 
-  pub write-none : (r : Decision) → w ≡ NoTable → Decides n c r (writeTable s x (freeFrom s 0) (freeFrom s (freeFrom s 0 + 1))) → Decides n c r (writeWay s w x)
+  pub write-none : (r : Decision) → w ≡ NoTable → Decides s c x r (λ b i d. writeTable s x (freeFrom s 0) (freeFrom s (freeFrom s 0 + 1)) (splice (backingCluster b s x) i d))
+      → Decides s c x r (λ b. writeWay b s w x)
   unfolding writeWay
-  write-none r q h = record { same = λ i d. rw q (h .same i d); inside = h .inside }
+  write-none r q h = record { same = λ b i d. rw q (h .same b i d); inside = h .inside }
 
-  pub write-there : (r : Decision) (p e : ℕ) → w ≡ Slot p e → Decides n c r (writeSlot s p e) → Decides n c r (writeWay s w x)
+  pub write-there : (r : Decision) (p e : ℕ) → w ≡ Slot p e → Decides s c x r (λ b. writeSlot b s x p e) → Decides s c x r (λ b. writeWay b s w x)
   unfolding writeWay
-  write-there r p e q h = record { same = λ i d. rw q (h .same i d); inside = h .inside }
+  write-there r p e q h = record { same = λ b i d. rw q (h .same b i d); inside = h .inside }

@@ -3,7 +3,7 @@ ghost use mathlib.Core.Path.{_≡_};
 ghost use mathlib.Core.Bool.{not, _||_};
 ghost use Prim.Native.Nat.{_%_, _≤_};
 ghost use lib.Dec.{eqb, ltb};
-ghost use Rattle.qcow2_spec.specs.Header.{leastLength, leastBits, mostBits, mostOrder, mostSnapshots, sector};
+ghost use Rattle.qcow2_spec.specs.Header.{leastLength, leastBits, mostBits, mostOrder, mostSnapshots, mostName, sector};
 ghost use Rattle.qcow2_limits.specs.Limits.{Known, oddLength, oversize as Oversize};
 use qcow2_spec::Geometry;
 
@@ -22,6 +22,9 @@ const MOST_ORDER: u32 = 6;
 
 // nb_snapshots.
 const MOST_SNAPSHOTS: u32 = 64;
+
+// backing_file_size.
+const MOST_NAME: u32 = 1023;
 
 // Bytes of the largest disk, and entries of the longest L1 table.
 const MOST_SIZE: u64 = 1099511627776;
@@ -60,6 +63,16 @@ pub fn too_many(snapshots: u32) -> bool
     ensures { λ r. ⌜ r ≡ ltb mostSnapshots snapshots ⌝ }
 {
     snapshots > MOST_SNAPSHOTS
+}
+
+// Whether a backing file's name is empty or too long.
+pub fn wrong_name_length(len: u32) -> bool
+    ensures { λ r. ⌜ r ≡ eqb len 0 || ltb mostName len ⌝ }
+{
+    if len == 0 {
+        return true;
+    }
+    len > MOST_NAME
 }
 
 // Whether the image is no whole number of clusters, or too long.

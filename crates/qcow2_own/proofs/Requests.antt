@@ -17,7 +17,7 @@ use Rattle.qcow2_spec.specs.declared.Way.{Way}
 use Rattle.qcow2_spec.specs.Header.{clusterSize, diskSize, perTable, roots, rootSize}
 use Rattle.qcow2_spec.specs.Opened.{Active}
 use Rattle.qcow2_spec.specs.Guest.{reach, outside}
-use Rattle.qcow2_spec.specs.Store.{clearing, judged, ownWay, writeWay, writePlan, discardWay, discardPlan}
+use Rattle.qcow2_spec.specs.Store.{clearing, ownWay, writeWay, writeList, discardWay, discardList}
 use Rattle.qcow2_guest.proofs.Ready.{active-size, reached, reached-cluster}
 use Rattle.qcow2_own.specs.Past.{pastWrite}
 
@@ -42,30 +42,34 @@ module _ (g : Geometry) (s : List ℕ) (o : Active g s) where
       pub fits : x % 2 ^ g .bits + len ≤ 2 ^ g .bits
       fits = omega (arith, tests .1 .1, mod-lt x (pow-pos (g .bits)))
 
+      -- its guest cluster starts inside the disk
+      pub starts : (len ≡ 0 → ⊥) → x / 2 ^ g .bits * 2 ^ g .bits < g .size
+      starts n = omega (arith, tests, div-add-mod' x (2 ^ g .bits))
+
       -- a byte of the disk has an entry in the active L1 table
       pub has-row : (len ≡ 0 → ⊥) → x / clusterSize s / perTable s < rootSize s 0
       has-row n = rw (o .1) at (reached g s (o .0) x (omega (arith, tests, o .0 .is-size)))
 
-    -- d is what is to be written
-    module _ (d : List ℕ) (e : length d ≡ len) where
-      pub write-past : pastWrite (g .size) (2 ^ g .bits) x len ≡ true → writePlan s x d ≡ refused 11
-      unfolding writePlan judged clearing
-      write-past h = rw (o .0 .accepted, e, ← past-is, h)
+    -- d is what is to be written, over any backing file
+    module _ (backing d : List ℕ) (e : length d ≡ len) where
+      pub write-past : pastWrite (g .size) (2 ^ g .bits) x len ≡ true → clearing s (writeList backing s x d) ≡ refused 11
+      unfolding writeList clearing
+      write-past h = rw (e, ← past-is, h)
 
-      pub write-none : pastWrite (g .size) (2 ^ g .bits) x len ≡ false → len ≡ 0 → writePlan s x d ≡ units []
-      unfolding writePlan judged clearing
-      write-none h z = rw (o .0 .accepted, e, ← past-is, h, eq-eqb len 0 z)
+      pub write-none : pastWrite (g .size) (2 ^ g .bits) x len ≡ false → len ≡ 0 → clearing s (writeList backing s x d) ≡ units []
+      unfolding writeList clearing
+      write-none h z = rw (e, ← past-is, h, eq-eqb len 0 z)
 
       pub write-some : (y q : ℕ) (v : Way) → pastWrite (g .size) (2 ^ g .bits) x len ≡ false → (len ≡ 0 → ⊥) → y ≡ x / 2 ^ g .bits → q ≡ x % 2 ^ g .bits → v ≡ ownWay s y
-          → writePlan s x d ≡ clearing s (writeWay s v y q d)
-      unfolding writePlan judged
-      write-some y q v h n f r k = rw (o .0 .accepted, e, ← past-is, h, ne-eqb len 0 n, ← o .0 .is-cluster, ← f, ← r, ← k)
+          → clearing s (writeList backing s x d) ≡ clearing s (writeWay backing s v y q d)
+      unfolding writeList
+      write-some y q v h n f r k = rw (e, ← past-is, h, ne-eqb len 0 n, ← o .0 .is-cluster, ← f, ← r, ← k)
 
   -- ---- a discard: the guest cluster starts inside the disk
   module _ (guest : ℕ) where
-    pub discard-past : ceilDiv (g .size) (2 ^ g .bits) ≤ guest → discardPlan s guest ≡ refused 11
-    unfolding discardPlan judged clearing
-    discard-past h = rw (o .0 .accepted, le-leb (diskSize s) (guest * clusterSize s) past)
+    pub discard-past : ceilDiv (g .size) (2 ^ g .bits) ≤ guest → clearing s (discardList s guest) ≡ refused 11
+    unfolding discardList clearing
+    discard-past h = rw (le-leb (diskSize s) (guest * clusterSize s) past)
       where
         past : diskSize s ≤ guest * clusterSize s
         past =
@@ -82,6 +86,6 @@ module _ (g : Geometry) (s : List ℕ) (o : Active g s) where
       pub has-row-cluster : guest / perTable s < rootSize s 0
       has-row-cluster = rw (o .1) at (reached-cluster g s (o .0) guest (omega (arith, inside, o .0 .is-size)))
 
-      pub discard-some : (v : Way) → v ≡ ownWay s guest → discardPlan s guest ≡ clearing s (discardWay s v)
-      unfolding discardPlan judged
-      discard-some v k = rw (o .0 .accepted, lt-leb (diskSize s) (guest * clusterSize s) (rw size at inside), ← k)
+      pub discard-some : (v : Way) → v ≡ ownWay s guest → clearing s (discardList s guest) ≡ clearing s (discardWay s v)
+      unfolding discardList
+      discard-some v k = rw (lt-leb (diskSize s) (guest * clusterSize s) (rw size at inside), ← k)

@@ -200,7 +200,7 @@ module _ (v C n e : ℕ) (h : goodL2 v C n e ≡ true) (z : zeroMark e ≡ false
         some-pos : (k : ℕ) → (k ≡ 0 → ⊥) → 0 < k
         some-pos k f = omega arith
 
--- no other L1 entry is good, unless it is empty
+-- a good L1 entry with no place is 0, and no other is good but a plain one
 row-good2 : (C n e : ℕ) → goodL1 C n e ≡ true → (goodL2 3 C n e ≡ true) × (zeroMark e ≡ false)
 unfolding goodL1 goodL2 compressed zeroMark
 row-good2 C n e h =
@@ -221,12 +221,15 @@ row-good2 C n e h =
     six : (k : ℕ) → k % 128 ≡ 0 → k % 64 ≡ 0
     six k f = omega arith
 
+pub empty-row : (C n e : ℕ) → goodL1 C n e ≡ true → place e ≡ 0 → e ≡ 0
+empty-row C n e h q = let g = row-good2 C n e h in empty-only 3 C n e (g .0) (g .1) q
+
 pub other-row : (C n e : ℕ) → plain C n e ≡ false → (e ≡ 0 → ⊥) → goodL1 C n e ≡ false
 other-row C n e p z = go (goodL1 C n e) refl
   where
     go : (b : Bool) → goodL1 C n e ≡ b → b ≡ false
     go false h = refl
-    go true h = let g = row-good2 C n e h in absurd (true-not-false (good-plain 3 C n e (g .0) (g .1) (λ q. z (empty-only 3 C n e (g .0) (g .1) q))) p)
+    go true h = let g = row-good2 C n e h in absurd (true-not-false (good-plain 3 C n e (g .0) (g .1) (λ q. z (empty-row C n e h q))) p)
 
 -- an entry that is not plain gives no host offset
 pub other-gives : (v C n at e o h : ℕ) → plain C n e ≡ false → wayGives (entryWay v C n at e) o ≡ Host h → ⊥

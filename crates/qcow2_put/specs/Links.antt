@@ -4,7 +4,7 @@ use Prim.Native.Nat.{ℕ, _+_, _*_, _%_, _^_, _≤_}
 use mathlib.Core.List.{List, [], _∷_, _++_}
 use lib.ListN.{length, replicate}
 use Rattle.widths.specs.Width.{Inside}
-use Rattle.units.specs.Units.{UnitStore, count, entry, fill, cluster}
+use Rattle.units.specs.Units.{UnitStore, count, entry, fill}
 use Rattle.qcow2_spec.specs.Header.{mostLength, clusterSize, countOrder, perTable}
 use Rattle.qcow2_spec.specs.Entries.{newEntry}
 use Rattle.qcow2_spec.specs.Counts.{countAt}
@@ -22,11 +22,12 @@ abbrev pub CellIn : ℕ → Cell → Type 0
 CellIn n (Count o at x) = Inside o n at
 CellIn n (Entry at x) = at + 8 ≤ n
 
--- in an image of n bytes, a cluster of c bytes at p with the data d from o on, and its entry at a
-pub record Filled (n a p c o : ℕ) (d : List ℕ) : Type 0 where
+-- in an image of n bytes, a cluster of c bytes at p with the data d from o on, over the bytes of base and zeros, and its entry at a
+pub record Filled (n a p c o : ℕ) (base d : List ℕ) : Type 0 where
   pub entered : a + 8 ≤ n
   pub inside : p + c ≤ n
   pub fits : o + length d ≤ c
+  pub under : length base ≤ c
   pub short : n ≤ mostLength
 
 -- the places of a write into the active table that takes cluster t as an L2 table and cluster k for the data
@@ -52,10 +53,11 @@ pub record Linked (n : ℕ) (p : Places) (c : ℕ) : Type 0 where
   pub linked : p .link + 8 ≤ n
   pub short : n ≤ mostLength
 
-unfoldable pub tableUnits : Places → (c o : ℕ) → List ℕ → List UnitStore
-tableUnits p c o d =
+-- the table of c bytes and the new cluster, which holds bs
+unfoldable pub tableUnits : Places → (c : ℕ) → (bs : List ℕ) → List UnitStore
+tableUnits p c bs =
     (count (2 ^ p .order) (p .tablecount) 1 ∷ fill (p .table) (replicate c 0))
-    ++ (count (2 ^ p .order) (p .datacount) 1 ∷ fill (p .place) (cluster c o d))
+    ++ (count (2 ^ p .order) (p .datacount) 1 ∷ fill (p .place) bs)
     ++ entry (p .slot) (newEntry (p .place))
     ∷ entry (p .link) (newEntry (p .table))
     ∷ []

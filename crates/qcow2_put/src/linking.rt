@@ -4,7 +4,9 @@ ghost use mathlib.Core.Path.{_≡_};
 ghost use Prim.Native.Nat.{_+_, _-_, _^_, _≤_};
 ghost use mathlib.Core.List.{[], _∷_, _++_};
 ghost use lib.ListN.{length, take, replicate};
+ghost use Rattle.endian.specs.Big.{splice};
 ghost use Rattle.units.specs.Units.{applyAll, count, entry, fill, cluster};
+ghost use Rattle.fills.specs.Padded.{padded};
 ghost use Rattle.units.specs.Plan.{units as planned, Done};
 ghost use Rattle.qcow2_spec.specs.Entries.{newEntry};
 ghost use Rattle.qcow2_put.specs.Links.{Filled, Linked, CellIn, tableUnits, unitOf};
@@ -37,22 +39,23 @@ pub fn put_two(image: &mut [u8], u: Cell, v: Cell, left: usize)
     put(image, v, rest);
 }
 
-// A cluster of c bytes is allotted: its count, then its bytes. Returns what is left of the allowance.
+// A cluster of c bytes is allotted: its count, then its bytes, src at o over base and zeros. Returns what is left of the allowance.
 fn allot(
     image: &mut [u8],
     order: u32,
     count_at: usize,
     at: usize,
     c: usize,
+    base: &[u8],
     src: &[u8],
     o: usize,
     left: usize,
 ) -> usize
-    requires { ⌜ Inside order (length (now image)) «count_at» × ((at + c ≤ length (now image)) × (o + length (now src) ≤ c)) ⌝ }
-    ensures { λ r. ⌜ (r ≡ left - (1 + c)) × (now (image .exit) ≡ applyAll (take left (count (2 ^ order) «count_at» 1 ∷ fill at (cluster c o (now (src .entry))))) (now (image .entry))) ⌝ }
+    requires { ⌜ Inside order (length (now image)) «count_at» × ((at + c ≤ length (now image)) × ((o + length (now src) ≤ c) × (length (now base) ≤ c))) ⌝ }
+    ensures { λ r. ⌜ (r ≡ left - (1 + c)) × (now (image .exit) ≡ applyAll (take left (count (2 ^ order) «count_at» 1 ∷ fill at (splice (padded c (now (base .entry))) o (now (src .entry))))) (now (image .entry))) ⌝ }
 {
     let rest = units::store_count(image, order, count_at, 1, left);
-    fills::store_cluster(image, at, c, src, o, rest)
+    fills::store_cluster(image, at, c, base, src, o, rest)
 }
 
 // A cluster is allotted and filled with zeros.
@@ -68,7 +71,8 @@ fn allot_zeros(
     requires { ⌜ Inside order (length (now image)) «count_at» × (at + c ≤ length (now image)) ⌝ }
     ensures { λ r. ⌜ (r ≡ left - (1 + c)) × (now (image .exit) ≡ applyAll (take left (count (2 ^ order) «count_at» 1 ∷ fill at (replicate c 0))) (now (image .entry))) ⌝ }
 {
-    allot(image, order, count_at, at, c, &src[0..0], 0, left)
+    let none = &src[0..0];
+    allot(image, order, count_at, at, c, none, none, 0, left)
 }
 
 // A new cluster and its entry.
@@ -79,14 +83,15 @@ pub fn put_new(
     entry_at: usize,
     at: usize,
     c: usize,
+    base: &[u8],
     src: &[u8],
     o: usize,
     allowance: usize,
 ) -> Outcome
-    requires { ⌜ Inside order (length (now image)) «count_at» × Filled (length (now image)) «entry_at» at c o (now src) ⌝ }
-    ensures { λ r. ⌜ Done (planned ((count (2 ^ order) «count_at» 1 ∷ fill at (cluster c o (now (src .entry)))) ++ entry «entry_at» (newEntry at) ∷ [])) allowance (now (image .entry)) r (now (image .exit)) ⌝ }
+    requires { ⌜ Inside order (length (now image)) «count_at» × Filled (length (now image)) «entry_at» at c o (now base) (now src) ⌝ }
+    ensures { λ r. ⌜ Done (planned ((count (2 ^ order) «count_at» 1 ∷ fill at (splice (padded c (now (base .entry))) o (now (src .entry)))) ++ entry «entry_at» (newEntry at) ∷ [])) allowance (now (image .entry)) r (now (image .exit)) ⌝ }
 {
-    let left = allot(image, order, count_at, at, c, src, o, allowance);
+    let left = allot(image, order, count_at, at, c, base, src, o, allowance);
     units::store_entry(image, entry_at, at as u64 + 9223372036854775808, left);
     units::end_of(c + 2, allowance)
 }
@@ -101,10 +106,10 @@ pub fn put_marked(
     o: usize,
     allowance: usize,
 ) -> Outcome
-    requires { ⌜ Filled (length (now image)) «entry_at» at c o (now src) ⌝ }
+    requires { ⌜ Filled (length (now image)) «entry_at» at c o [] (now src) ⌝ }
     ensures { λ r. ⌜ Done (planned (fill at (cluster c o (now (src .entry))) ++ entry «entry_at» (newEntry at) ∷ [])) allowance (now (image .entry)) r (now (image .exit)) ⌝ }
 {
-    let rest = fills::store_cluster(image, at, c, src, o, allowance);
+    let rest = fills::store_cluster(image, at, c, &src[0..0], src, o, allowance);
     units::store_entry(image, entry_at, at as u64 + 9223372036854775808, rest);
     units::end_of(c + 1, allowance)
 }
@@ -134,15 +139,16 @@ pub fn put_table(
     image: &mut [u8],
     p: Places,
     c: usize,
+    base: &[u8],
     src: &[u8],
     o: usize,
     allowance: usize,
 ) -> Outcome
-    requires { ⌜ Linked (length (now image)) p c × (o + length (now src) ≤ c) ⌝ }
-    ensures { λ r. ⌜ Done (planned (tableUnits p c o (now (src .entry)))) allowance (now (image .entry)) r (now (image .exit)) ⌝ }
+    requires { ⌜ Linked (length (now image)) p c × ((o + length (now src) ≤ c) × (length (now base) ≤ c)) ⌝ }
+    ensures { λ r. ⌜ Done (planned (tableUnits p c (splice (padded c (now (base .entry))) o (now (src .entry))))) allowance (now (image .entry)) r (now (image .exit)) ⌝ }
 {
     let left = allot_zeros(image, p.order, p.tablecount, p.table, c, src, allowance);
-    let rest = allot(image, p.order, p.datacount, p.place, c, src, o, left);
+    let rest = allot(image, p.order, p.datacount, p.place, c, base, src, o, left);
     let slot = Cell::Entry(p.slot, p.place as u64 + 9223372036854775808);
     let link = Cell::Entry(p.link, p.table as u64 + 9223372036854775808);
     put_two(image, slot, link, rest);

@@ -4,7 +4,7 @@ ghost use Prim.Native.Nat.{ℕ, _+_, _-_, _*_, _/_, _%_, _^_, _<_, _≤_};
 ghost use mathlib.Core.Bool.{true};
 ghost use lib.ListN.{length};
 ghost use Rattle.qcow2_spec.specs.Header.{mostBits, mostLength, mostReach, perTable, rootSize};
-ghost use Rattle.qcow2_spec.specs.Guest.{entryWay, wayNumber, waysNumber, touched, readNumber};
+ghost use Rattle.qcow2_spec.specs.Guest.{entryWay, wayNumber, waysNumber, touched, rangeNumber};
 ghost use Rattle.qcow2_spec.specs.Opened.{Opened};
 ghost use Rattle.qcow2_range.specs.Slots.{slot, numbers};
 use qcow2_spec::Geometry;
@@ -123,7 +123,7 @@ fn touched_count(x: u64, len: usize, bits: u32) -> u64
 // The number of a read of len bytes from x on, or 0. The end of the range is not formed before it is known to lie on the disk.
 pub fn read_number(image: &[u8], g: Geometry, x: u64, len: usize) -> u8
     requires { ⌜ Opened g (now image) ⌝ }
-    ensures { λ r. ⌜ r ≡ readNumber (now (image .entry)) (g .root) x len ⌝ }
+    ensures { λ r. ⌜ r ≡ rangeNumber (now (image .entry)) (g .root) x len ⌝ }
 {
     if g.size < x {
         return 11;

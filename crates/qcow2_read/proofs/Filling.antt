@@ -24,19 +24,19 @@ next-piece f x a r o out e h = go (r - a) (omega arith) refl
         rw (z, e, take-at (each f x a) (drop a o) a (length-each f x a), ← q, d)
         (sym (ap (λ (l : List ℕ). l ++ drop (a + k) o) (each-append f x a k) ∙ append-assoc (each f x a) (each f (x + a) k) (drop (a + k) o)))
 
-module _ (s : List ℕ) (r x : ℕ) (o : List ℕ) where
-  pub no-bytes : o ≡ guestBytes s r x 0 ++ drop 0 o
+module _ (backing s : List ℕ) (r x : ℕ) (o : List ℕ) where
+  pub no-bytes : o ≡ guestBytes backing s r x 0 ++ drop 0 o
   unfolding guestBytes
   no-bytes = refl
 
-  pub next-bytes : (a m : ℕ) (out : List ℕ) → out ≡ guestBytes s r x a ++ drop a o → a ≤ m
-      → take a out ++ (guestBytes s r (x + a) (m - a) ++ drop m out) ≡ guestBytes s r x m ++ drop m o
+  pub next-bytes : (a m : ℕ) (out : List ℕ) → out ≡ guestBytes backing s r x a ++ drop a o → a ≤ m
+      → take a out ++ (guestBytes backing s r (x + a) (m - a) ++ drop m out) ≡ guestBytes backing s r x m ++ drop m o
   unfolding guestBytes
-  next-bytes a m out e h = next-piece (guestByte s r) x a m o out e h
+  next-bytes a m out e h = next-piece (guestByte backing s r) x a m o out e h
 
-  pub length-filled : (m : ℕ) → m ≤ length o → length (guestBytes s r x m ++ drop m o) ≡ length o
+  pub length-filled : (m : ℕ) → m ≤ length o → length (guestBytes backing s r x m ++ drop m o) ≡ length o
   unfolding guestBytes
   length-filled m h = simp (length-append, length-each, length-drop) (omega arith)
 
-  pub all-bytes : (m : ℕ) → m ≡ length o → guestBytes s r x m ++ drop m o ≡ guestBytes s r x (length o)
+  pub all-bytes : (m : ℕ) → m ≡ length o → guestBytes backing s r x m ++ drop m o ≡ guestBytes backing s r x (length o)
   all-bytes m e = rw (e, drop-length) (append-nil _)

@@ -13,9 +13,9 @@ use Rattle.qcow2_spec.specs.declared.Geometry.{Geometry}
 use Rattle.qcow2_spec.specs.declared.Verdict.{Verdict}
 use Rattle.qcow2_spec.specs.Header.{clusters}
 use Rattle.qcow2_spec.specs.Opened.{Opened}
-use Rattle.qcow2_spec.specs.Store.{clearing, judged}
-use Rattle.qcow2_spec.specs.References.{figuresOf, scratchAfter, scratchLeft}
-use Rattle.qcow2_spec.specs.Check.{verdict, verdictPlan, repairPlan}
+use Rattle.qcow2_spec.specs.Store.{clearing}
+use Rattle.qcow2_spec.specs.References.{figuresOf, scratchAfter, scratchCounted}
+use Rattle.qcow2_spec.specs.Check.{verdict, verdictPlan, repairList}
 use Rattle.qcow2_repair.specs.Leaks.{Figured}
 use Rattle.qcow2_repair.proofs.Midway.{length-of}
 
@@ -27,19 +27,19 @@ left-figured s scratch t e =
 
 module _ (g : Geometry) (s : List ℕ) (o : Opened g s) where
   module _ (n : ℕ) where
-    pub repair-short : n / 2 < g .clusters → repairPlan s n ≡ refused 15
-    unfolding repairPlan judged clearing
-    repair-short h = rw (o .accepted, lt-ltb n (2 * clusters s) (omega (arith, o .is-clusters)))
+    pub repair-short : n / 2 < g .clusters → clearing s (repairList s n) ≡ refused 15
+    unfolding repairList clearing
+    repair-short h = rw (lt-ltb n (2 * clusters s) (omega (arith, o .is-clusters)))
 
-    pub repair-room : (v : Verdict) → g .clusters ≤ n / 2 → v ≡ verdict s → repairPlan s n ≡ clearing s (verdictPlan s v)
-    unfolding repairPlan judged
-    repair-room v h e = rw (o .accepted, le-ltb n (2 * clusters s) (omega (arith, o .is-clusters)), ← e)
+    pub repair-room : (v : Verdict) → g .clusters ≤ n / 2 → v ≡ verdict s → clearing s (repairList s n) ≡ clearing s (verdictPlan s v)
+    unfolding repairList
+    repair-room v h e = rw (le-ltb n (2 * clusters s) (omega (arith, o .is-clusters)), ← e)
 
   module _ (scratch : List ℕ) where
-    pub scratch-short : length scratch / 2 < g .clusters → scratch ≡ scratchLeft s scratch
-    unfolding scratchLeft
-    scratch-short h = rw (o .accepted, lt-ltb (length scratch) (2 * clusters s) (omega (arith, o .is-clusters)))
+    pub scratch-short : length scratch / 2 < g .clusters → scratch ≡ scratchCounted s scratch
+    unfolding scratchCounted
+    scratch-short h = rw (lt-ltb (length scratch) (2 * clusters s) (omega (arith, o .is-clusters)))
 
-    pub scratch-room : g .clusters ≤ length scratch / 2 → scratchAfter s scratch ≡ scratchLeft s scratch
-    unfolding scratchLeft
-    scratch-room h = rw (o .accepted, le-ltb (length scratch) (2 * clusters s) (omega (arith, o .is-clusters)))
+    pub scratch-room : g .clusters ≤ length scratch / 2 → scratchAfter s scratch ≡ scratchCounted s scratch
+    unfolding scratchCounted
+    scratch-room h = rw (le-ltb (length scratch) (2 * clusters s) (omega (arith, o .is-clusters)))

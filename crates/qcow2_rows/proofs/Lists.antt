@@ -2,9 +2,12 @@
 use Prim.Native.Nat.{ℕ, suc, _+_, _/_, _^_, _≤_, _<_}
 use native.Mathlib.Omega.{arith}
 use mathlib.Core.Path.{_≡_, refl, ap, _∙_}
-use mathlib.Core.Bool.{false}
+use mathlib.Core.Bool.{Bool, true, false}
 use mathlib.Core.List.{List, [], _∷_, _++_, append-nil}
 use lib.ListN.{length, replicate, length-replicate}
+use Rattle.choice.specs.Pick.{if_then_else_}
+use Rattle.endian.specs.Big.{splice}
+use Rattle.endian.proofs.Laws.{length-splice}
 use Rattle.widths.specs.Width.{span}
 use Rattle.units.specs.Units.{UnitStore, entry, count, fill, cluster}
 use Rattle.units.proofs.Laws.{length-cluster}
@@ -54,16 +57,24 @@ module _ (at p v c : ℕ) (bs : List ℕ) (e : length bs ≡ c) (h : 0 < c) wher
 abbrev pub tableRows : Places → (c : ℕ) → List ℕ
 tableRows p c = countRow (p .order) (p .tablecount) 1 ++ fillRow (p .table) c 1 ++ countRow (p .order) (p .datacount) 1 ++ fillRow (p .place) c 1 ++ entryRow (p .slot) 1 ++ entryRow (p .link) 2
 
-pub rows-table : (p : Places) (c o : ℕ) (d : List ℕ) → o + length d ≤ c → 0 < c → stepRows 1 (halves (tableUnits p c o d)) ≡ tableRows p c
+pub rows-table : (p : Places) (c : ℕ) (bs : List ℕ) → length bs ≡ c → 0 < c → stepRows 1 (halves (tableUnits p c bs)) ≡ tableRows p c
 unfolding tableUnits stepRows rowsOf extents join
-rows-table p c o d f h =
+rows-table p c bs f h =
     let w : UnitStore = entry (p .slot) (newEntry (p .place)) in
     let k : UnitStore = count (2 ^ p .order) (p .datacount) 1 in
     let z : List ℕ = replicate c 0 in
-    let b : List ℕ = cluster c o d in
-    let y = extents-filled (p .place) c b (length-cluster c o d f) h (w ∷ []) next in
-    let x = extents-filled (p .table) c z (length-replicate c 0) h (k ∷ fill (p .place) b ++ w ∷ []) next in
-    rw (halves-table (count (2 ^ p .order) (p .tablecount) 1 ∷ fill (p .table) z) (k ∷ fill (p .place) b) w (p .link) (newEntry (p .table)), x, y)
+    let y = extents-filled (p .place) c bs f h (w ∷ []) next in
+    let x = extents-filled (p .table) c z (length-replicate c 0) h (k ∷ fill (p .place) bs ++ w ∷ []) next in
+    rw (halves-table (count (2 ^ p .order) (p .tablecount) 1 ∷ fill (p .table) z) (k ∷ fill (p .place) bs) w (p .link) (newEntry (p .table)), x, y)
+
+-- what a new cluster holds
+module _ (c o : ℕ) (under d : List ℕ) (e : length under ≡ c) (h : o + length d ≤ c) where
+  pub length-under : length (splice under o d) ≡ c
+  length-under = length-splice under o d (omega arith) ∙ e
+
+  pub length-new : (m : Bool) → length (if m then cluster c o d else splice under o d) ≡ c
+  length-new true = length-cluster c o d h
+  length-new false = length-under
 
 -- ---- a discard
 pub rows-entry : (at v : ℕ) → stepRows 1 (halves (entry at v ∷ [])) ≡ entryRow at 2

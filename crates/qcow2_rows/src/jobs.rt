@@ -1,8 +1,7 @@
 // The rows of a write's or a discard's own units. Epoch 2 has the one that links, shows or frees what the others of epoch 1 made ready.
 ghost use mathlib.Core.Path.{_≡_};
-ghost use Prim.Native.Nat.{_+_, _≤_, _<_};
+ghost use Prim.Native.Nat.{ℕ, _+_, _≤_, _<_};
 ghost use mathlib.Core.List.{List};
-ghost use Prim.Native.Nat.{ℕ};
 ghost use lib.ListN.{length};
 ghost use Rattle.qcow2_spec.specs.Header.{mostLength};
 ghost use Rattle.qcow2_spec.specs.Flush.{halves};
@@ -20,7 +19,7 @@ use qcow2_put::linking::Places;
 // A new L2 table and a new cluster.
 fn table_rows(rows: &mut [u64], k: usize, p: Places, c: usize) -> usize
     requires { ⌜ ((k ≤ 1) × Linked mostLength p c) × (0 < c) ⌝ }
-    ensures { λ r. ⌜ (r ≤ 7) × ((o : ℕ) (d : List ℕ) → o + length d ≤ c → Puts (stepRows 1 (halves (tableUnits p c o d))) (now (rows .entry)) k (now (rows .exit)) r) ⌝ }
+    ensures { λ r. ⌜ (r ≤ 7) × ((bs : List ℕ) → length bs ≡ c → Puts (stepRows 1 (halves (tableUnits p c bs))) (now (rows .entry)) k (now (rows .exit)) r) ⌝ }
 {
     let a = put_count(rows, k, p.order, p.tablecount, 1);
     let b = put_row(rows, a, p.table, c, c, 1);
@@ -33,7 +32,7 @@ fn table_rows(rows: &mut [u64], k: usize, p: Places, c: usize) -> usize
 // A write of len bytes, at least one, from byte o of its cluster of c bytes on.
 pub fn job_rows(rows: &mut [u64], k: usize, job: Job, c: usize, o: usize, len: usize) -> usize
     requires { ⌜ ((k ≤ 1) × JobIn mostLength c job) × ((o + len ≤ c) × (0 < len)) ⌝ }
-    ensures { λ r. ⌜ (r ≤ 7) × ((d : List ℕ) → length d ≡ len → Puts (stepRows 1 (halves (jobUnits job c o d))) (now (rows .entry)) k (now (rows .exit)) r) ⌝ }
+    ensures { λ r. ⌜ (r ≤ 7) × ((under d : List ℕ) → length under ≡ c → length d ≡ len → Puts (stepRows 1 (halves (jobUnits job c o under d))) (now (rows .entry)) k (now (rows .exit)) r) ⌝ }
 {
     match job {
         Job::Bytes(p) => put_row(rows, k, p + o, len, len, 1),
@@ -41,7 +40,7 @@ pub fn job_rows(rows: &mut [u64], k: usize, job: Job, c: usize, o: usize, len: u
             let a = put_row(rows, k, p, c, c, 1);
             put_entry(rows, a, at, 2)
         }
-        Job::New(order, count_at, at, p) => {
+        Job::New(_, order, count_at, at, p) => {
             let a = put_count(rows, k, order, count_at, 1);
             let b = put_row(rows, a, p, c, c, 1);
             put_entry(rows, b, at, 2)
@@ -56,8 +55,8 @@ pub fn freed_rows(rows: &mut [u64], k: usize, freed: Freed) -> usize
     ensures { λ r. ⌜ (r ≤ 3) × Puts (stepRows 1 (halves (freedUnits freed))) (now (rows .entry)) k (now (rows .exit)) r ⌝ }
 {
     match freed {
-        Freed::Entry(at) => put_entry(rows, k, at, 2),
-        Freed::Both(at, order, count_at, _) => {
+        Freed::Entry(at, _) => put_entry(rows, k, at, 2),
+        Freed::Both(at, _, order, count_at, _) => {
             let a = put_entry(rows, k, at, 1);
             put_count(rows, a, order, count_at, 2)
         }

@@ -15,7 +15,7 @@ use Rattle.endian.specs.Big.{splice}
 use Rattle.endian.proofs.Laws.{length-splice, splice-next, splice-none, splice-more, set-two}
 use Rattle.qcow2_spec.specs.Header.{roots}
 use Rattle.qcow2_spec.specs.Guest.{located, outside}
-use Rattle.qcow2_spec.specs.Runs.{foundCode, foundHost, runLength, runRow, runRows, runsNumber, listRuns, runsInto}
+use Rattle.qcow2_spec.specs.Runs.{foundCode, foundHost, runLength, runRow, runRows, runsListed, runsPut}
 use Rattle.qcow2_spec.specs.Opened.{Opened}
 use Rattle.qcow2_spec.specs.declared.Geometry.{Geometry}
 use Rattle.qcow2_spec.specs.declared.Found.{Found}
@@ -116,20 +116,19 @@ past-is n x len = go (ltb n x) refl
     go false e = let l : x ≤ n = ltb-false n x e in same-test (n - x) len n (x + len) (λ h. omega arith) (λ h. omega arith)
 
 module _ (g : Geometry) (s : List ℕ) (o : Opened g s) (x len : ℕ) where
-  number-is : runsNumber s (g .root) x len ≡ (if ltb (g .size) (x + len) then 11 else 0)
-  unfolding runsNumber outside
-  number-is = rw (o .accepted, lt-leb (roots s) (g .root) (o .there), ← o .is-size, past-is)
+  outside-is : outside s (g .root) x len ≡ ltb (g .size) (x + len)
+  unfolding outside
+  outside-is = rw (lt-leb (roots s) (g .root) (o .there), ← o .is-size) (past-is (g .size) x len)
 
   module _ (h : ltb (g .size) (x + len) ≡ true) (out : List ℕ) where
-    pub past-refused : (Refused 11 ≡ listRuns s (g .root) x len (length out / 3)) × (out ≡ runsInto s (g .root) x len out)
-    unfolding listRuns runsInto
-    past-refused = let n : runsNumber s (g .root) x len ≡ 11 = number-is ∙ rw h in (rw n, rw n)
+    pub past-refused : (Refused 11 ≡ runsListed s (g .root) x len (length out / 3)) × (out ≡ runsPut s (g .root) x len out)
+    unfolding runsListed runsPut
+    past-refused = (rw (outside-is, h), rw (outside-is, h))
 
   module _ (h : ltb (g .size) (x + len) ≡ false) (out : List ℕ) where
     pub runs-listed : (k : ℕ) → 3 * k ≡ length (runRows s (g .root) x len (length out / 3)) → (t : List ℕ) → t ≡ splice out 0 (runRows s (g .root) x len (length out / 3))
-        → (Rows k ≡ listRuns s (g .root) x len (length out / 3)) × (t ≡ runsInto s (g .root) x len out)
-    unfolding listRuns runsInto
+        → (Rows k ≡ runsListed s (g .root) x len (length out / 3)) × (t ≡ runsPut s (g .root) x len out)
+    unfolding runsListed runsPut
     runs-listed k e t d =
-        let n : runsNumber s (g .root) x len ≡ 0 = number-is ∙ rw h in
         let c : k ≡ length (runRows s (g .root) x len (length out / 3)) / 3 = omega arith in
-        (rw (n, ← c), rw n d)
+        (rw (outside-is, h, ← c), rw (outside-is, h) d)

@@ -4,7 +4,7 @@ ghost use Prim.Native.Nat.{_+_, _-_, _*_, _/_, _%_, _^_, _<_, _≤_};
 ghost use lib.ListN.{length};
 ghost use Rattle.endian.specs.Big.{splice};
 ghost use Rattle.qcow2_spec.specs.Guest.{reach, located};
-ghost use Rattle.qcow2_spec.specs.Runs.{runLength, runRow, runRows, listRuns, runsInto};
+ghost use Rattle.qcow2_spec.specs.Runs.{runLength, runRow, runRows, runsListed, runsPut};
 ghost use Rattle.qcow2_spec.specs.Opened.{Opened};
 ghost use Rattle.qcow2_runs.specs.Ends.{runFrom};
 use qcow2_spec::Found;
@@ -80,7 +80,7 @@ fn store_runs(image: &[u8], g: Geometry, x: u64, len: u64, rows: &mut [u64]) -> 
 // Lists the runs of the len bytes from x on. Refused, the output is left alone.
 pub fn listed(image: &[u8], g: Geometry, x: u64, len: u64, rows: &mut [u64]) -> Listed
     requires { ⌜ Opened g (now image) ⌝ }
-    ensures { λ r. ⌜ (r ≡ listRuns (now (image .entry)) (g .root) x len (length (now (rows .entry)) / 3)) × (now (rows .exit) ≡ runsInto (now (image .entry)) (g .root) x len (now (rows .entry))) ⌝ }
+    ensures { λ r. ⌜ (r ≡ runsListed (now (image .entry)) (g .root) x len (length (now (rows .entry)) / 3)) × (now (rows .exit) ≡ runsPut (now (image .entry)) (g .root) x len (now (rows .entry))) ⌝ }
 {
     if power::past(g.size, x, len) {
         return Listed::Refused(11);

@@ -50,10 +50,11 @@ module _ (g : Geometry) (s : List ℕ) (o : Opened g s) (k : ℕ) (h : k < snaps
         blocks = g .blocks;
         snapshots = g .snapshots;
         snapshotsat = g .snapshotsat;
+        backed = g .backed;
       }) s
   unfolding geometry reach rootSize rootAt
   root-opened l c p el ec ep =
       let q : c / 8 ≡ perTable s = omega (arith, o .is-cluster, o .eight) in
       let n : k + 1 ≡ suc k = omega arith in
-      rw (q, ec ∙ o .is-cluster, el, ep, n, o .is-version, o .is-bits, o .is-order, o .is-clusters, o .is-tableat, o .is-tableclusters, o .is-blocks, o .is-snapshots, o .is-snapshotsat)
+      rw (q, ec ∙ o .is-cluster, el, ep, n, o .is-version, o .is-bits, o .is-order, o .is-clusters, o .is-tableat, o .is-tableclusters, o .is-blocks, o .is-snapshots, o .is-snapshotsat, o .is-backed)
       (geometry-opened s (o .accepted) (suc k) rooted)

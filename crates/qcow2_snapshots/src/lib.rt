@@ -88,6 +88,7 @@ pub fn snapshot_root(image: &[u8], g: Geometry, k: usize) -> Geometry
         blocks: g.blocks,
         snapshots: g.snapshots,
         snapshotsat: g.snapshotsat,
+        backed: g.backed,
     }
 }
 

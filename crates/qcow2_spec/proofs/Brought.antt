@@ -15,8 +15,8 @@ use Rattle.qcow2_spec.proofs.Plans.{sure-apart}
 use Rattle.qcow2_spec.proofs.Series.{start-sure}
 
 pub extents-brought : ExtentsBrought
-extents-brought s by h r sm e =
-    let us = planUnits (planOf s r) in
-    let k = start-sure s by h r sm in
-    brought-apart (epochs s us) s (sure-apart s (k .0) r (planOf s r) (k .1)) e
+extents-brought backing s bb by h r sm e =
+    let us = planUnits (planOf backing s r) in
+    let k = start-sure backing s bb by h r sm in
+    brought-apart (epochs s us) s (sure-apart backing s (k .0) r (planOf backing s r) (k .1)) e
     ∙ ap (λ (vs : List UnitStore). brought (extentsIn (take e (epochs s us))) s (applyAll vs s)) (epochs-whole s us)

@@ -9,19 +9,19 @@ use mathlib.Core.Bool.{Bool, true, false, not, _||_}
 use mathlib.Core.List.{List, [], _∷_}
 use lib.Dec.{leb, ltb, eqb}
 use lib.ListN.{length}
-use borrow.Author.Tests.{ltb-true, ltb-false, leb-false, eqb-true, eqb-false, lt-ltb, le-ltb, le-leb, lt-leb}
+use borrow.Author.Tests.{ltb-true, ltb-false, leb-false, eqb-true, eqb-false, lt-ltb, le-ltb, le-leb, lt-leb, ne-eqb}
 use Rattle.choice.specs.Pick.{if_then_else_, unless, each}
 use Rattle.choice.proofs.Tests.{if-yes, if-no, if-zero, if-elim, or-false, false-or}
 use Rattle.endian.specs.Big.{be64, part}
-use Rattle.qcow2_spec.specs.Header.{version, clusterSize, diskSize, perTable, snapshots, roots, judge}
+use Rattle.qcow2_spec.specs.Header.{version, clusterSize, diskSize, perTable, snapshots, roots, judgeLent, someLent, judge}
 use Rattle.qcow2_spec.specs.Entries.{place, goodL1, goodL2, compressed, zeroMark}
-use Rattle.qcow2_spec.specs.Guest.{l1Entry, entryWay, l2Way, way, entryGives, wayGives, wayNumber, waysNumber, located, translate, foundByte, guestByte, guestBytes, reach, outside, touched, readNumber, readInto}
+use Rattle.qcow2_spec.specs.Guest.{l1Entry, entryWay, l2Way, way, entryGives, wayGives, wayNumber, waysNumber, located, translated, translate, foundByte, guestByte, guestBytes, reach, outside, touched, rangeNumber, rangeInto, readNumber, readInto}
 use Rattle.qcow2_spec.specs.Bytewise.{refusal, bytesNumber, bytewise, bytewiseInto, Bytewise}
 use Rattle.qcow2_spec.specs.declared.Found.{Found}
 use Rattle.qcow2_spec.specs.declared.Found.the-variants.{Host, Zeros, Absent, Refused}
 use Rattle.qcow2_spec.specs.declared.Way.{Way}
 use Rattle.qcow2_spec.specs.declared.Way.the-variants.{Bad, NoTable, Slot}
-use Rattle.qcow2_spec.proofs.Facts.{facts, c-pos, unless-zero}
+use Rattle.qcow2_spec.proofs.Facts.{facts, accepted-lent, c-pos, unless-zero}
 
 -- ---- guest clusters of C bytes
 module _ (C : ℕ) (pos : 0 < C) where
@@ -79,17 +79,12 @@ gives-number (Slot a e) o =
     if-elim (λ (f : Found). refusal f ≡ 0) (zeroMark e) _ _ (λ h. refl)
     (λ h. if-elim (λ (f : Found). refusal f ≡ 0) (eqb (place e) 0) _ _ (λ z. refl) (λ z. refl))
 
-module _ (s : List ℕ) (ok : judge s ≡ 0) where
+module _ (s : List ℕ) (ok : judgeLent true s ≡ 0) where
   abbrev C : ℕ
   C = clusterSize s
 
   pos : 0 < C
   pos = c-pos s (facts s ok)
-
-  -- the translation of a byte of the disk
-  pub translate-inside : (x : ℕ) → x < diskSize s → translate s x ≡ located s 0 x
-  unfolding translate
-  translate-inside x l = rw ok (if-no (leb (diskSize s) x) _ _ (lt-leb _ _ l))
 
   byte-number : (t x : ℕ) → refusal (located s t x) ≡ wayNumber (way s t (x / C))
   unfolding located
@@ -127,79 +122,113 @@ past size x len = go (ltb size (x + len)) refl
         first true d = refl
         first false d = lt-ltb (size - x) len (omega (arith, ltb-true size (x + len) e, ltb-false size x d))
 
-pub number-bytewise : (s : List ℕ) (t x len : ℕ) → readNumber s t x len ≡ bytewise s t x len
-unfolding readNumber bytewise outside
-number-bytewise s t x len = go (judge s) refl
-  where
-    go : (j : ℕ) → judge s ≡ j
-        → unless j (λ k. k) (if outside s t x len then 11 else waysNumber s t (x / clusterSize s) (touched (clusterSize s) x len))
-        ≡ unless j (λ k. k) (if leb (roots s) t then 11 else if ltb (reach s t) (x + len) then 11 else bytesNumber s t x len)
-    go (suc j) e = refl
-    go zero e =
-        rw (or-assoc (leb (roots s) t) (ltb (reach s t) x) (ltb (reach s t - x) len), past (reach s t) x len, ways-bytes s e t len x)
-        (both (leb (roots s) t) (ltb (reach s t) (x + len)) _)
+-- the number of a range of an accepted image
+range-bytewise : (s : List ℕ) → judgeLent true s ≡ 0 → (t x len : ℕ)
+    → rangeNumber s t x len ≡ (if leb (roots s) t then 11 else if ltb (reach s t) (x + len) then 11 else bytesNumber s t x len)
+unfolding rangeNumber outside
+range-bytewise s ok t x len =
+    rw (or-assoc (leb (roots s) t) (ltb (reach s t) x) (ltb (reach s t - x) len), past (reach s t) x len, ways-bytes s ok t len x)
+    (both (leb (roots s) t) (ltb (reach s t) (x + len)) _)
 
--- the bytes of an accepted read are those of the disk
-inside-disk : (s : List ℕ) (t x len : ℕ) → readNumber s t x len ≡ 0 → (judge s ≡ 0) × (t < roots s) × (x + len ≤ reach s t)
-unfolding readNumber outside
+-- the bytes of an accepted range are those of the disk
+inside-disk : (s : List ℕ) (t x len : ℕ) → rangeNumber s t x len ≡ 0 → (t < roots s) × (x + len ≤ reach s t)
+unfolding rangeNumber outside
 inside-disk s t x len e =
-    let p = unless-zero (judge s) _ e in
-    let q = if-zero (leb (roots s) t || ltb (reach s t) x || ltb (reach s t - x) len) 10 _ (p .1) .0 in
+    let q = if-zero (leb (roots s) t || ltb (reach s t) x || ltb (reach s t - x) len) 10 _ e .0 in
     let o = or-false (leb (roots s) t) _ (rw (or-assoc (leb (roots s) t) (ltb (reach s t) x) (ltb (reach s t - x) len), past (reach s t) x len) at q) in
-    (p .0, leb-false _ _ (o .0), ltb-false _ _ (o .1))
+    (leb-false _ _ (o .0), ltb-false _ _ (o .1))
 
-into-bytewise : (s : List ℕ) (t x : ℕ) (out : List ℕ) → readInto s t x out ≡ bytewiseInto s t x out
-unfolding readInto bytewiseInto guestBytes guestByte
-into-bytewise s t x out = rw (number-bytewise s t x (length out)) refl
+-- what is refused reads as zeros
+refused-zero : (backing s : List ℕ) (x : ℕ) (f : Found) → refusal f ≢ 0 → foundByte backing s x f ≡ 0
+unfolding refusal foundByte
+refused-zero backing s x (Host h) n = absurd (n refl)
+refused-zero backing s x Zeros n = refl
+refused-zero backing s x Absent n = absurd (n refl)
+refused-zero backing s x (Refused k) n = refl
 
--- ---- a translation, on the disk and past its end
 unless-none : (n : ℕ) → unless n (λ k. k) 0 ≡ n
 unless-none zero = refl
 unless-none (suc n) = refl
-
-pub translate-refused : (s : List ℕ) (x j : ℕ) → judge s ≡ suc j → translate s x ≡ Refused (suc j)
-unfolding translate
-translate-refused s x j e = rw e
-
-pub translate-past : (s : List ℕ) (x : ℕ) → judge s ≡ 0 → diskSize s ≤ x → translate s x ≡ Refused 11
-unfolding translate
-translate-past s x e l = rw e (if-yes (leb (diskSize s) x) _ _ (le-leb _ _ l))
 
 -- there is always the active table
 active-there : (s : List ℕ) → leb (roots s) 0 ≡ false
 unfolding roots
 active-there s = lt-leb (roots s) 0 (zero-lt-suc (snapshots s))
 
-translate-bytewise : (s : List ℕ) (x : ℕ) → refusal (translate s x) ≡ bytewise s 0 x 1
-unfolding bytewise bytesNumber reach refusal
-translate-bytewise s x = rw (active-there s) (go (judge s) refl)
-  where
-    go : (j : ℕ) → judge s ≡ j → refusal (translate s x) ≡ unless j (λ k. k) (if ltb (diskSize s) (x + 1) then 11 else unless (refusal (located s 0 x)) (λ k. k) 0)
-    go (suc j) e = ap refusal (translate-refused s x j e)
-    go zero e =
-        if-elim (λ (n : ℕ). refusal (translate s x) ≡ n) (ltb (diskSize s) (x + 1)) _ _
-        (λ h. ap refusal (translate-past s x e (omega (arith, ltb-true (diskSize s) (x + 1) h))))
-        (λ h. ap refusal (translate-inside s e x (omega (arith, ltb-false (diskSize s) (x + 1) h))) ∙ sym (unless-none (refusal (located s 0 x))))
+module _ (backing s : List ℕ) where
+  lent : judge backing s ≡ 0 → judgeLent true s ≡ 0
+  unfolding judge
+  lent e = accepted-lent (someLent backing) s e
 
--- what is refused reads as zeros
-refused-zero : (s : List ℕ) (f : Found) → refusal f ≢ 0 → foundByte s f ≡ 0
-unfolding refusal foundByte
-refused-zero s (Host h) n = absurd (n refl)
-refused-zero s Zeros n = refl
-refused-zero s Absent n = refl
-refused-zero s (Refused k) n = refl
+  pub number-bytewise : (t x len : ℕ) → readNumber backing s t x len ≡ bytewise backing s t x len
+  unfolding readNumber bytewise
+  number-bytewise t x len = go (judge backing s) refl
+    where
+      go : (j : ℕ) → judge backing s ≡ j
+          → unless j (λ k. k) (rangeNumber s t x len)
+          ≡ unless j (λ k. k) (if leb (roots s) t then 11 else if ltb (reach s t) (x + len) then 11 else bytesNumber s t x len)
+      go (suc j) e = refl
+      go zero e = range-bytewise s (lent e) t x len
 
-translate-read : (s : List ℕ) (x : ℕ) → refusal (translate s x) ≡ readNumber s 0 x 1 → readInto s 0 x (0 ∷ []) ≡ foundByte s (translate s x) ∷ []
-unfolding readInto guestBytes guestByte reach
-translate-read s x r =
-    if-elim (λ (l : List ℕ). l ≡ foundByte s (translate s x) ∷ []) (eqb (readNumber s 0 x 1) 0) _ _
-    (λ e. let p = inside-disk s 0 x 1 (eqb-true _ _ e) in ap (λ (f : Found). foundByte s f ∷ []) (sym (translate-inside s (p .0) x (omega (arith, p .2)))))
-    (λ e. ap (λ (y : ℕ). y ∷ []) (sym (refused-zero s (translate s x) (λ z. eqb-false _ _ e (sym r ∙ z)))))
+  into-number : (t x : ℕ) (out : List ℕ) → readInto backing s t x out ≡ (if eqb (readNumber backing s t x (length out)) 0 then guestBytes backing s t x (length out) else out)
+  unfolding readInto rangeInto readNumber
+  into-number t x out = go (judge backing s)
+    where
+      go : (j : ℕ)
+          → unless j (λ k. out) (if eqb (rangeNumber s t x (length out)) 0 then guestBytes backing s t x (length out) else out)
+          ≡ (if eqb (unless j (λ k. k) (rangeNumber s t x (length out))) 0 then guestBytes backing s t x (length out) else out)
+      go zero = refl
+      go (suc j) = sym (if-no (eqb (suc j) 0) _ out (ne-eqb (suc j) 0 (suc-ne-zero j)))
+
+  into-bytewise : (t x : ℕ) (out : List ℕ) → readInto backing s t x out ≡ bytewiseInto backing s t x out
+  unfolding bytewiseInto guestBytes guestByte
+  into-bytewise t x out = into-number t x out ∙ rw (number-bytewise t x (length out)) refl
+
+  -- ---- a translation, on the disk and past its end
+  pub translate-inside : (x : ℕ) → judge backing s ≡ 0 → x < diskSize s → translate backing s x ≡ located s 0 x
+  unfolding translate translated
+  translate-inside x e l = rw e (if-no (leb (diskSize s) x) _ _ (lt-leb _ _ l))
+
+  pub translate-refused : (x j : ℕ) → judge backing s ≡ suc j → translate backing s x ≡ Refused (suc j)
+  unfolding translate
+  translate-refused x j e = rw e
+
+  pub translate-past : (x : ℕ) → judge backing s ≡ 0 → diskSize s ≤ x → translate backing s x ≡ Refused 11
+  unfolding translate translated
+  translate-past x e l = rw e (if-yes (leb (diskSize s) x) _ _ (le-leb _ _ l))
+
+  translate-bytewise : (x : ℕ) → refusal (translate backing s x) ≡ bytewise backing s 0 x 1
+  unfolding bytewise bytesNumber reach refusal
+  translate-bytewise x = rw (active-there s) (go (judge backing s) refl)
+    where
+      go : (j : ℕ) → judge backing s ≡ j
+          → refusal (translate backing s x) ≡ unless j (λ k. k) (if ltb (diskSize s) (x + 1) then 11 else unless (refusal (located s 0 x)) (λ k. k) 0)
+      go (suc j) e = ap refusal (translate-refused x j e)
+      go zero e =
+          if-elim (λ (n : ℕ). refusal (translate backing s x) ≡ n) (ltb (diskSize s) (x + 1)) _ _
+          (λ h. ap refusal (translate-past x e (omega (arith, ltb-true (diskSize s) (x + 1) h))))
+          (λ h. ap refusal (translate-inside x e (omega (arith, ltb-false (diskSize s) (x + 1) h))) ∙ sym (unless-none (refusal (located s 0 x))))
+
+  -- an accepted read: the image is accepted, and the range lies on the disk
+  accepted-range : (t x len : ℕ) → readNumber backing s t x len ≡ 0 → (judge backing s ≡ 0) × (t < roots s) × (x + len ≤ reach s t)
+  unfolding readNumber
+  accepted-range t x len e =
+      let p = unless-zero (judge backing s) (rangeNumber s t x len) e in
+      let q = inside-disk s t x len (p .1) in
+      (p .0, q .0, q .1)
+
+  translate-read : (x : ℕ) → refusal (translate backing s x) ≡ readNumber backing s 0 x 1 → readInto backing s 0 x (0 ∷ []) ≡ foundByte backing s x (translate backing s x) ∷ []
+  unfolding guestBytes guestByte reach
+  translate-read x r =
+      into-number 0 x (0 ∷ [])
+      ∙ if-elim (λ (l : List ℕ). l ≡ foundByte backing s x (translate backing s x) ∷ []) (eqb (readNumber backing s 0 x 1) 0) _ _
+      (λ e. let p = accepted-range 0 x 1 (eqb-true _ _ e) in ap (λ (f : Found). foundByte backing s x f ∷ []) (sym (translate-inside x (p .0) (omega (arith, p .2)))))
+      (λ e. ap (λ (y : ℕ). y ∷ []) (sym (refused-zero backing s x (translate backing s x) (λ z. eqb-false _ _ e (sym r ∙ z)))))
 
 pub read-bytewise : Bytewise
-read-bytewise s x =
-    let r : refusal (translate s x) ≡ readNumber s 0 x 1 = translate-bytewise s x ∙ sym (number-bytewise s 0 x 1) in
-    ((λ t len. number-bytewise s t x len), (λ t out. into-bytewise s t x out), r, translate-read s x r)
+read-bytewise backing s x =
+    let r : refusal (translate backing s x) ≡ readNumber backing s 0 x 1 = translate-bytewise backing s x ∙ sym (number-bytewise backing s 0 x 1) in
+    ((λ t len. number-bytewise backing s t x len), (λ t out. into-bytewise backing s t x out), r, translate-read backing s x r)
 
 -- ---- where a read is accepted
 -- a number other than 0
@@ -269,22 +298,25 @@ unfolding bytesNumber
 zero-bytes s t zero x h = refl
 zero-bytes s t (suc l) x h = rw (h x (omega arith) (omega arith)) (zero-bytes s t l (suc x) (λ y a b. h y (omega arith) (omega arith)))
 
-bytewise-inside : (s : List ℕ) (t x len : ℕ) → judge s ≡ 0 → t < roots s → x + len ≤ reach s t → bytewise s t x len ≡ bytesNumber s t x len
-unfolding bytewise
-bytewise-inside s t x len ok h l = rw ok (if-no (leb (roots s) t) 11 _ (lt-leb _ _ h) ∙ if-no (ltb (reach s t) (x + len)) 11 _ (le-ltb _ _ l))
-
 -- a read is accepted exactly where the image is, there is such a table, the range lies on its disk, and no byte of it is refused
-pub read-accepted : (s : List ℕ) (t x len : ℕ)
-    → (readNumber s t x len ≡ 0) ↔ ((judge s ≡ 0) × (t < roots s) × (x + len ≤ reach s t) × ((y : ℕ) → x ≤ y → y < x + len → Taken (located s t y)))
-read-accepted s t x len = (there, back)
-  where
-    there : readNumber s t x len ≡ 0 → (judge s ≡ 0) × (t < roots s) × (x + len ≤ reach s t) × ((y : ℕ) → x ≤ y → y < x + len → Taken (located s t y))
-    there e =
-        let p = inside-disk s t x len e in
-        let z : bytesNumber s t x len ≡ 0 = sym (bytewise-inside s t x len (p .0) (p .1) (p .2)) ∙ sym (number-bytewise s t x len) ∙ e in
-        (p .0, p .1, p .2, λ y a b. taken (located s t y) (numbered s t y) .0 (bytes-zero s t len x z y a b))
+module _ (backing s : List ℕ) (t x len : ℕ) where
+  abbrev Accepts : Type 0
+  Accepts = (judge backing s ≡ 0) × (t < roots s) × (x + len ≤ reach s t) × ((y : ℕ) → x ≤ y → y < x + len → Taken (located s t y))
 
-    back : (judge s ≡ 0) × (t < roots s) × (x + len ≤ reach s t) × ((y : ℕ) → x ≤ y → y < x + len → Taken (located s t y)) → readNumber s t x len ≡ 0
-    back p =
-        number-bytewise s t x len ∙ bytewise-inside s t x len (p .0) (p .1) (p .2)
-        ∙ zero-bytes s t len x (λ y a b. taken (located s t y) (numbered s t y) .1 (p .3 y a b))
+  bytewise-inside : judge backing s ≡ 0 → t < roots s → x + len ≤ reach s t → bytewise backing s t x len ≡ bytesNumber s t x len
+  unfolding bytewise
+  bytewise-inside ok h l = rw ok (if-no (leb (roots s) t) 11 _ (lt-leb _ _ h) ∙ if-no (ltb (reach s t) (x + len)) 11 _ (le-ltb _ _ l))
+
+  pub read-accepted : (readNumber backing s t x len ≡ 0) ↔ Accepts
+  read-accepted = (there, back)
+    where
+      there : readNumber backing s t x len ≡ 0 → Accepts
+      there e =
+          let p = accepted-range backing s t x len e in
+          let z : bytesNumber s t x len ≡ 0 = sym (bytewise-inside (p .0) (p .1) (p .2)) ∙ sym (number-bytewise backing s t x len) ∙ e in
+          (p .0, p .1, p .2, λ y a b. taken (located s t y) (numbered s t y) .0 (bytes-zero s t len x z y a b))
+
+      back : Accepts → readNumber backing s t x len ≡ 0
+      back p =
+          number-bytewise backing s t x len ∙ bytewise-inside (p .0) (p .1) (p .2)
+          ∙ zero-bytes s t len x (λ y a b. taken (located s t y) (numbered s t y) .1 (p .3 y a b))

@@ -232,9 +232,9 @@ module _ (s : List ℕ) (a : ℕ) (cs : List Bool) where
           let r = rough-halves us a cs in
           (r .0, ap (λ (vs : List UnitStore). entry autoclearAt 0 ∷ vs) (r .1) ∙ sym (loosely-past (entry autoclearAt 0 ∷ []) (halves us) (suc a) a (r .0) (omega arith)))
 
-  rough-judged : (p : Plan) → AsLoose (planUnits (judged s p))
+  rough-judged : (backing : List ℕ) (p : Plan) → AsLoose (planUnits (judged backing s p))
   unfolding judged planUnits
-  rough-judged p = go (judge s)
+  rough-judged backing p = go (judge backing s)
     where
       go : (j : ℕ) → AsLoose (planUnits (unless j refused (clearing s p)))
       go zero = rough-clearing p
@@ -243,8 +243,8 @@ module _ (s : List ℕ) (a : ℕ) (cs : List Bool) where
   stored : (us : List UnitStore) → AsLoose us → (ds : List Bool) × (applyAll (roughly us a cs) s ≡ applyAll (loosely (epochs s us) a ds) s)
   stored us r = (r .0, ap (λ (vs : List UnitStore). applyAll vs s) (r .1))
 
-  pub rough-loose : (r : Request) → (ds : List Bool) × (afterRough (planOf s r) a cs s ≡ afterLoose (planOf s r) a ds s)
+  pub rough-loose : (backing : List ℕ) (r : Request) → (ds : List Bool) × (afterRough (planOf backing s r) a cs s ≡ afterLoose (planOf backing s r) a ds s)
   unfolding planOf writePlan discardPlan repairPlan afterRough afterLoose
-  rough-loose (write x d) = stored _ (rough-judged _)
-  rough-loose (discard g) = stored _ (rough-judged _)
-  rough-loose (repair n) = stored _ (rough-judged _)
+  rough-loose backing (write x d) = stored _ (rough-judged backing _)
+  rough-loose backing (discard g) = stored _ (rough-judged backing _)
+  rough-loose backing (repair n) = stored _ (rough-judged backing _)

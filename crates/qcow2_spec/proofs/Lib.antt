@@ -9,6 +9,8 @@ pub mod Verdicts
 pub mod Ways
 pub mod Bytewise
 pub mod Lookup
+pub mod Backing
+pub mod Bodies
 pub mod Rough
 pub mod Flush
 pub mod Sectors
@@ -27,3 +29,4 @@ pub mod Else
 pub mod Places
 pub mod Visits
 pub mod Walked
+pub mod Alone

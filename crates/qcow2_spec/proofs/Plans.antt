@@ -1,6 +1,6 @@
 -- Every call's list of units, cut between any two flushes with any of the units there stored, keeps the image sound or leaking and feeds the plain disk as the rules say. Assumes nothing.
-use Prim.Native.Nat.{ℕ, zero, suc, _+_, _-_, _*_, _/_, _%_, _≤_, _<_}
-use native.Mathlib.Nat.{zero-mul, zero-add, suc-ne-zero, add-zero, div-eq-of-lt, div-lt-iff-lt-mul, mod-lt, div-add-mod', mul-le-mul-right, lt-of-mul-lt-mul-right}
+use Prim.Native.Nat.{ℕ, zero, suc, _+_, _-_, _*_, _/_, _%_, _^_, _≤_, _<_}
+use native.Mathlib.Nat.{zero-lt-suc, zero-div, zero-mul, zero-add, suc-ne-zero, div-eq-of-lt, div-lt-iff-lt-mul, mod-lt, div-add-mod', mul-le-mul-right, lt-of-mul-lt-mul-right}
 use native.Mathlib.Decide.{ℕ-discrete, decLe, decLt}
 use native.Mathlib.Omega.{arith}
 use mathlib.Core.Path.{_≡_, refl, sym, ap, ap₂, _∙_, subst}
@@ -12,31 +12,32 @@ use lib.ListN.{length, getD, take, drop, replicate, length-replicate}
 use lib.Seq.{sets, take-nil, drop-nil}
 use borrow.Author.Tests.{ltb-true, ltb-false, leb-true, leb-false, eqb-true, eqb-false, le-leb, lt-ltb}
 use Rattle.cuts.proofs.Cell.{mem, small-enc}
-use Rattle.cuts.proofs.Meta.{cnt, Has, l2, tab, dat, refsOf, Sound, dat-none, keep-refs}
-use Rattle.cuts.proofs.Step.{gread, gread-none, split-index, dat-in, free-not-0, Quiet}
+use Rattle.cuts.proofs.Meta.{cnt, Has, tab, dat, mark, refsOf, Sound, keep-refs}
+use Rattle.cuts.proofs.Step.{gread, gread-none, gread-absent, split-index, dat-in, free-not-0, Quiet}
 use Rattle.cuts.proofs.Run.{Store, fill, Epoch, epoch-only, epoch-late}
 use Rattle.cuts.proofs.Run.{none as eachNone, also as eachAlso}
 use Rattle.cuts.proofs.Call.{Ok, SameGuest, Zeroed, MidZ, EndZ, discard-run, unmark-run, countStore}
-use Rattle.cuts.proofs.Write.{Wrote, Partly, MidW, EndW, MidP, place-run, marked-run, alloc-run, table-run}
+use Rattle.cuts.proofs.Write.{Body, body-zeros, gread-marked, Wrote, Partly, MidW, EndW, MidP, place-run, marked-run, alloc-run, table-run}
 use Rattle.cuts.proofs.Repair.{MidR, Repaired, repair-run}
 use Rattle.cuts.proofs.Idle.{idle-store}
 use Rattle.choice.specs.Pick.{if_then_else_, first}
-use Rattle.endian.specs.Big.{be64, bytes64}
+use Rattle.choice.proofs.Each.{length-each}
+use Rattle.endian.specs.Big.{be64, bytes64, splice}
 use Rattle.endian.proofs.Laws.{length-bytes64, sets-splice, be64-stored}
 use Rattle.units.proofs.Laws.{length-applyAll}
-use Rattle.qcow2_spec.specs.Header.{mostL1, autoclearAt, autoclear, version, clusterSize, clusters, diskSize, perTable, roots, rootSize, judge}
-use Rattle.qcow2_spec.specs.Entries.{place, zeroMark}
+use Rattle.qcow2_spec.specs.Header.{mostL1, autoclearAt, autoclear, version, clusterSize, clusters, diskSize, perTable, roots, rootSize, backed, judge}
+use Rattle.qcow2_spec.specs.Entries.{place, zeroMark, goodL2}
 use Rattle.qcow2_spec.specs.Counts.{countOf, freeAt, freeFrom}
 use Rattle.qcow2_spec.specs.declared.Way.{Way}
 use Rattle.qcow2_spec.specs.declared.Way.the-variants.{Bad as bad, NoTable as noTable, Slot as slot}
-use Rattle.qcow2_spec.specs.Guest.{reach, outside}
+use Rattle.qcow2_spec.specs.Guest.{backingByte, reach, outside}
 use Rattle.units.specs.Plan.{Plan, refused, units, planUnits}
 use Rattle.units.specs.Units.{UnitStore, entry, apply as applyU, applyAll, cluster}
 use Rattle.qcow2_spec.specs.Entries.{newEntry}
 use Rattle.qcow2_spec.specs.Counts.{setCount}
-use Rattle.qcow2_spec.specs.Store.{ownWay, clearUnits, clearing, judged, allot, writeNew, writeTable, writeSlot, writeWay, writePlan, discardSlot, discardWay, discardPlan}
+use Rattle.qcow2_spec.specs.Store.{ownWay, clearUnits, clearing, judged, allot, writeNew, writeTable, writeSlot, backingCluster, newBytes, writeWay, writeList, writePlan, clearedEntry, discardSlot, discardWay, discardList, discardPlan}
 use Rattle.qcow2_spec.specs.References.{figuresOf}
-use Rattle.qcow2_spec.specs.Check.{verdict, repairUnits, verdictPlan, repairPlan}
+use Rattle.qcow2_spec.specs.Check.{verdict, repairUnits, verdictPlan, repairList, repairPlan}
 use Rattle.units.specs.declared.Outcome.{Outcome}
 use Rattle.units.specs.declared.Outcome.the-variants.{Finished, Stopped, Refused}
 use Rattle.qcow2_spec.specs.declared.Verdict.{Verdict}
@@ -51,12 +52,13 @@ use Rattle.qcow2_spec.proofs.Numbers.{enc8}
 use Rattle.qcow2_spec.proofs.Geo.{nr, geo, code, geo-ok}
 use Rattle.qcow2_spec.proofs.Kept.{has, cnt-own}
 use Rattle.qcow2_spec.proofs.Verdicts.{refs-own, sound-exact}
-use Rattle.qcow2_spec.proofs.Ways.{rd, Slot, Own, OwnIs, own-way, dat-own, dat-place, dat-zero, dat-some-own, reach-in, in-root, inside}
+use Rattle.qcow2_spec.proofs.Ways.{rd, Slot, Own, OwnIs, own-way, dat-own, mark-own, dat-place, dat-zero, dat-some-own, reach-in, in-root, inside}
+use Rattle.qcow2_spec.proofs.Bodies.{each-at, small-each, body-over, backing-small, plain-good}
 use Rattle.qcow2_spec.proofs.Flush.{halves-entry, halves-table, halves-drop, halves-none, picked-nil, picked-all, Held}
 use Rattle.qcow2_spec.proofs.Sectors.{spot, wide, sector-entry, Ins}
 use Rattle.qcow2_spec.proofs.Extents.{covers-one, Disjoint, Beside, Apart, beside-none}
 use Rattle.qcow2_spec.proofs.Sectors.{none as allNone, also as allAlso}
-use Rattle.qcow2_spec.proofs.Units.{Twin, Like, none, also, like-append, like-picked, like-in, like-epochs, like-aside, like-some, like-covers, Off, like-apart, like-fill, like-cluster, fill-quiet, fill-plain, repair-plain, off-new, off-slot, off-drop, off-table, count-aside, link-aside, entry-aside, count-like, entry-like, link-like, repair-like}
+use Rattle.qcow2_spec.proofs.Units.{Twin, Like, none, also, like-append, like-picked, like-in, like-epochs, like-aside, like-some, like-covers, Off, like-apart, like-fill, like-whole, cluster-around, fill-quiet, fill-plain, repair-plain, off-new, off-slot, off-drop, off-table, count-aside, link-aside, entry-aside, count-like, entry-like, link-like, repair-like}
 
 -- ---- the disk after a write
 module _ (C x : ℕ) (d : List ℕ) (disk : ℕ → ℕ) (y : ℕ) where
@@ -76,10 +78,6 @@ module _ (C x : ℕ) (d : List ℕ) (disk : ℕ → ℕ) (y : ℕ) where
 -- the unit that clears the autoclear field
 abbrev clear : UnitStore
 clear = entry autoclearAt 0
-
-zero-place : (e : ℕ) → e ≡ 0 → place e ≡ 0
-unfolding place
-zero-place e z = rw z refl
 
 dec-range : (x y n : ℕ) → Dec ((x ≤ y) × (y < x + n))
 dec-range x y n = go (decLe x y) (decLt y (x + n))
@@ -127,12 +125,12 @@ module _ (size : ℕ) (old old′ new new′ now now′ : ℕ → ℕ) (ho : Sam
       go y l (inl e) = inl (sym (hw y l) ∙ e ∙ ho y l)
       go y l (inr e) = inr (sym (hw y l) ∙ e ∙ hn y l)
 
-module _ (s : List ℕ) (f : Facts s) where
+module _ (backing s : List ℕ) (f : Facts s) where
   abbrev m : ℕ → ℕ → ℕ
   m = mem (clusterSize s) s
 
   abbrev pub seen : List ℕ → ℕ → ℕ
-  seen t = rd (geo s) (code s) t 0
+  seen t = rd (geo s) (code s) (backingByte backing s) t 0
 
   abbrev pub Kept : List ℕ → Type 0
   Kept t = Ok (geo s) (code s) m t
@@ -164,6 +162,18 @@ module _ (s : List ℕ) (f : Facts s) where
       go (inl n) = inl (λ e. n (omega arith))
       go (inr n) = inr n
 
+  -- the byte at x of what lies under guest cluster c, zeros past the disk's size
+  abbrev beneath : (c x : ℕ) → ℕ
+  beneath c x = if ltb (c * clusterSize s + x) (diskSize s) then backingByte backing s (c * clusterSize s + x) else 0
+
+  beneath-at : (y : ℕ) → y < diskSize s → backingByte backing s y ≡ beneath (y / clusterSize s) (y % clusterSize s)
+  beneath-at y l =
+      sym (ap (λ (z : ℕ). if ltb z (diskSize s) then backingByte backing s z else 0) (div-add-mod' y (clusterSize s)) ∙ if-yes (ltb y (diskSize s)) _ _ (lt-ltb y (diskSize s) l))
+
+  seen-beneath : (t : List ℕ) (y : ℕ) → y < diskSize s
+      → seen t y ≡ gread (geo s) (code s) (mem (clusterSize s) t) (nr 0 (y / clusterSize s / perTable s)) (y / clusterSize s % perTable s) (y % clusterSize s) (beneath (y / clusterSize s) (y % clusterSize s))
+  seen-beneath t y l = ap (λ (v : ℕ). gread (geo s) (code s) (mem (clusterSize s) t) (nr 0 (y / clusterSize s / perTable s)) (y / clusterSize s % perTable s) (y % clusterSize s) v) (beneath-at y l)
+
   -- ---- what the machinery says of the reads, for the snapshots
   abbrev pub Shots : List ℕ → Type 0
   Shots t = (a b x : ℕ) → a < roots s * mostL1 → mostL1 ≤ a → b < perTable s → x < clusterSize s → gread (geo s) (code s) (mem (clusterSize s) t) a b x ≡ gread (geo s) (code s) m a b x
@@ -172,27 +182,29 @@ module _ (s : List ℕ) (f : Facts s) where
   unfolding SameGuest
   same-shots t h a b x l n p q = h a b x l p q
 
-  zeroed-shots : (t : List ℕ) (i j : ℕ) → i < mostL1 → Zeroed (geo s) (code s) i j s t → Shots t
-  zeroed-shots t i j l h a b x k n p q = h .other a b x k p q (inl (λ e. omega arith))
+  zeroed-shots : (t : List ℕ) (u : ℕ → ℕ) (i j : ℕ) → i < mostL1 → Zeroed (geo s) (code s) u i j s t → Shots t
+  zeroed-shots t u i j l h a b x k n p q = h .other a b x k p q (inl (λ e. omega arith))
 
-  wrote-shots : (t : List ℕ) (i j o : ℕ) (d : List ℕ) → i < mostL1 → Wrote (geo s) (code s) i j o d s t → Shots t
-  wrote-shots t i j o d l h a b x k n p q = h .other a b x k p q (inl (λ e. omega arith))
+  wrote-shots : (t : List ℕ) (u : ℕ → ℕ) (i j o : ℕ) (d : List ℕ) → i < mostL1 → Wrote (geo s) (code s) u i j o d s t → Shots t
+  wrote-shots t u i j o d l h a b x k n p q = h .other a b x k p q (inl (λ e. omega arith))
 
   -- ---- and for the plain disk
   same-rd : (r t : List ℕ) → SameGuest (geo s) (code s) r t → SameDisk (diskSize s) (seen t) (seen r)
   unfolding SameGuest SameDisk
-  same-rd r t h y l = h (nr 0 (y / clusterSize s / perTable s)) (y / clusterSize s % perTable s) (y % clusterSize s) (nr-l1 _ (in-l1 y l)) (mod-lt (y / clusterSize s) ep) (mod-lt y cp)
+  same-rd r t h y l =
+      ap (λ (f : ℕ → ℕ). f (backingByte backing s y))
+      (h (nr 0 (y / clusterSize s / perTable s)) (y / clusterSize s % perTable s) (y % clusterSize s) (nr-l1 _ (in-l1 y l)) (mod-lt (y / clusterSize s) ep) (mod-lt y cp))
 
-  zeroed-rd : (t : List ℕ) (c : ℕ) → Zeroed (geo s) (code s) (nr 0 (c / perTable s)) (c % perTable s) s t → SameDisk (diskSize s) (seen t) (finished (clusterSize s) (discard c) (seen s))
+  zeroed-rd : (t : List ℕ) (c : ℕ) → Zeroed (geo s) (code s) (beneath c) (nr 0 (c / perTable s)) (c % perTable s) s t → SameDisk (diskSize s) (seen t) (finished (clusterSize s) (discard c) (seen s))
   unfolding SameDisk finished
   zeroed-rd t c h y l =
       if-elim (λ (v : ℕ). seen t y ≡ v) (eqb (y / clusterSize s) c) _ _
-      (λ e. ap (λ (x : ℕ). gread (geo s) (code s) (mem (clusterSize s) t) (nr 0 (x / perTable s)) (x % perTable s) (y % clusterSize s)) (eqb-true _ _ e) ∙ h .here (y % clusterSize s) (mod-lt y cp))
-      (λ e. h .other (nr 0 (y / clusterSize s / perTable s)) (y / clusterSize s % perTable s) (y % clusterSize s) (nr-l1 _ (in-l1 y l)) (mod-lt (y / clusterSize s) ep) (mod-lt y cp)
-      (split-nr (y / clusterSize s) c (eqb-false _ _ e)))
+      (λ e. seen-beneath t y l ∙ ap (λ (x : ℕ). gread (geo s) (code s) (mem (clusterSize s) t) (nr 0 (x / perTable s)) (x % perTable s) (y % clusterSize s) (beneath x (y % clusterSize s))) (eqb-true _ _ e) ∙ h .here (y % clusterSize s) (mod-lt y cp))
+      (λ e. ap (λ (f : ℕ → ℕ). f (backingByte backing s y)) (h .other (nr 0 (y / clusterSize s / perTable s)) (y / clusterSize s % perTable s) (y % clusterSize s) (nr-l1 _ (in-l1 y l)) (mod-lt (y / clusterSize s) ep) (mod-lt y cp)
+      (split-nr (y / clusterSize s) c (eqb-false _ _ e))))
 
   wrote-rd : (t : List ℕ) (x : ℕ) (d : List ℕ) → x % clusterSize s + length d ≤ clusterSize s
-      → Wrote (geo s) (code s) (nr 0 (x / clusterSize s / perTable s)) (x / clusterSize s % perTable s) (x % clusterSize s) d s t
+      → Wrote (geo s) (code s) (beneath (x / clusterSize s)) (nr 0 (x / clusterSize s / perTable s)) (x / clusterSize s % perTable s) (x % clusterSize s) d s t
       → SameDisk (diskSize s) (seen t) (finished (clusterSize s) (write x d) (seen s))
   unfolding SameDisk
   wrote-rd t x d fits h y l = go (ℕ-discrete (y / clusterSize s) (x / clusterSize s))
@@ -214,19 +226,19 @@ module _ (s : List ℕ) (f : Facts s) where
 
       go : Dec (y / C ≡ x / C) → seen t y ≡ finished C (write x d) (seen s) y
       go (no n) =
-          h .other (nr 0 (y / C / E)) (y / C % E) (y % C) (nr-l1 _ (in-l1 y l)) (mod-lt (y / C) ep) (mod-lt y cp) (split-nr (y / C) (x / C) n)
+          ap (λ (f : ℕ → ℕ). f (backingByte backing s y)) (h .other (nr 0 (y / C / E)) (y / C % E) (y % C) (nr-l1 _ (in-l1 y l)) (mod-lt (y / C) ep) (mod-lt y cp) (split-nr (y / C) (x / C) n))
           ∙ sym (written-out C x d (seen s) y (λ p. n (near p .0)))
       go (yes e) = pick (dec-range x y (length d))
         where
           e′ : y / C * C ≡ x / C * C
           e′ = ap (λ (z : ℕ). z * C) e
 
-          at : (r : List ℕ) → seen r y ≡ gread (geo s) (code s) (mem C r) (nr 0 (x / C / E)) (x / C % E) (y % C)
-          at r = ap (λ (z : ℕ). gread (geo s) (code s) (mem C r) (nr 0 (z / E)) (z % E) (y % C)) e
+          at : (r : List ℕ) → seen r y ≡ gread (geo s) (code s) (mem C r) (nr 0 (x / C / E)) (x / C % E) (y % C) (beneath (x / C) (y % C))
+          at r = seen-beneath r y l ∙ ap (λ (z : ℕ). gread (geo s) (code s) (mem C r) (nr 0 (z / E)) (z % E) (y % C) (beneath z (y % C))) e
 
           pick : Dec ((x ≤ y) × (y < x + length d)) → seen t y ≡ finished C (write x d) (seen s) y
           pick (yes p) =
-              at t ∙ ap (λ (z : ℕ). gread (geo s) (code s) (mem C t) (nr 0 (x / C / E)) (x / C % E) z) (near p .1) ∙ h .inside (y - x) (omega arith)
+              at t ∙ ap (λ (z : ℕ). gread (geo s) (code s) (mem C t) (nr 0 (x / C / E)) (x / C % E) z (beneath (x / C) z)) (near p .1) ∙ h .inside (y - x) (omega arith)
               ∙ sym (written-in C x d (seen s) y (p .0) (p .1))
           pick (no n) = at t ∙ h .outside (y % C) (mod-lt y cp) (side (decLt y x)) ∙ sym (at s) ∙ sym (written-out C x d (seen s) y n)
             where
@@ -239,7 +251,7 @@ module _ (s : List ℕ) (f : Facts s) where
                   apart (no b) = absurd (n (omega arith, omega arith))
 
   part-rd : (t : List ℕ) (x : ℕ) (d : List ℕ) → x % clusterSize s + length d ≤ clusterSize s
-      → Partly (geo s) (code s) (nr 0 (x / clusterSize s / perTable s)) (x / clusterSize s % perTable s) (x % clusterSize s) d s t
+      → Partly (geo s) (code s) (beneath (x / clusterSize s)) (nr 0 (x / clusterSize s / perTable s)) (x / clusterSize s % perTable s) (x % clusterSize s) d s t
       → Mixed (diskSize s) (seen t) (seen s) (finished (clusterSize s) (write x d) (seen s))
   unfolding Mixed SameDisk
   part-rd t x d fits h y l = go (dec-range x y (length d))
@@ -260,13 +272,13 @@ module _ (s : List ℕ) (f : Facts s) where
           at : (y / C ≡ x / C) × (y % C ≡ x % C + (y - x))
           at = within-cluster C x y (length d) cp fits (p .0) (p .1)
 
-          old : seen s y ≡ gread (geo s) (code s) m (nr 0 (x / C / E)) (x / C % E) (x % C + (y - x))
-          old = ap₂ (λ (a b : ℕ). gread (geo s) (code s) m (nr 0 (a / E)) (a % E) b) (at .0) (at .1)
+          old : seen s y ≡ gread (geo s) (code s) m (nr 0 (x / C / E)) (x / C % E) (x % C + (y - x)) (beneath (x / C) (x % C + (y - x)))
+          old = seen-beneath s y l ∙ ap₂ (λ (a b : ℕ). gread (geo s) (code s) m (nr 0 (a / E)) (a % E) b (beneath a b)) (at .0) (at .1)
 
           now : seen t y ≡ getD (h .bytes) (y - x) 0
           now = r ∙ written-in C x (h .bytes) (seen s) y (p .0) (omega (arith, p .1, h .len))
 
-          one : (getD (h .bytes) (y - x) 0 ≡ gread (geo s) (code s) m (nr 0 (x / C / E)) (x / C % E) (x % C + (y - x))) ⊎ (getD (h .bytes) (y - x) 0 ≡ getD d (y - x) 0)
+          one : (getD (h .bytes) (y - x) 0 ≡ gread (geo s) (code s) m (nr 0 (x / C / E)) (x / C % E) (x % C + (y - x)) (beneath (x / C) (x % C + (y - x)))) ⊎ (getD (h .bytes) (y - x) 0 ≡ getD d (y - x) 0)
               → (seen t y ≡ seen s y) ⊎ (seen t y ≡ finished C (write x d) (seen s) y)
           one (inl e) = inl (now ∙ e ∙ sym old)
           one (inr e) = inr (now ∙ e ∙ sym (written-in C x d (seen s) y (p .0) (p .1)))
@@ -378,7 +390,7 @@ module _ (s : List ℕ) (f : Facts s) where
   whole-aside : (us : List UnitStore) (t : List ℕ) → Aside us → applyAll us (applyU clear t) ≡ applyU clear (applyAll us t)
   whole-aside us t z = rw (picked-all us) at (z (replicate (length us) true) t)
 
-  module _ (k : Kept s) where
+  module _ (bb : Bytes backing) (k : Kept s) where
     -- a list that is fine is so after the clearing unit
     held-clear : (r : Request) (b : Bool) (es : List (List UnitStore)) (t : List ℕ) → Held (Mid r b) (End r) es t → Asides es → Held (Mid r b) (End r) es (applyU clear t)
     unfolding Held Asides
@@ -506,6 +518,23 @@ module _ (s : List ℕ) (f : Facts s) where
       abbrev o : ℕ
       o = x % clusterSize s
 
+      abbrev u : ℕ → ℕ
+      u = beneath (x / clusterSize s)
+
+      -- what a new data cluster must hold
+      abbrev Whole : List ℕ → Type 0
+      Whole bs = Body (clusterSize s) o d (λ y. gread (geo s) (code s) m i j y (u y)) bs
+
+      whole-zeros : mark (geo s) (code s) m i j ≢ 0 → Whole (cluster (clusterSize s) o d)
+      whole-zeros q =
+          subst Whole (sym (cluster-around (clusterSize s) o d)) (body-zeros (clusterSize s) o d _ inC sm (λ y l. ap (λ (v : ℕ → ℕ). v (u y)) (gread-marked (geo s) (code s) m i j y q)))
+
+      whole-backing : ((y : ℕ) → gread (geo s) (code s) m i j y ≡ (λ v. v)) → Whole (splice (backingCluster backing s (x / clusterSize s)) o d)
+      unfolding backingCluster
+      whole-backing q =
+          body-over (clusterSize s) o d _ _ (length-each _ _ _) (small-each _ (λ y. if-elim (λ (v : ℕ). v < 256) (ltb y (diskSize s)) _ _ (λ e. backing-small backing s bb y) (λ e. zero-lt-suc 255)) (x / clusterSize s * clusterSize s) (clusterSize s)) inC sm
+          (λ y l. each-at _ _ _ y l ∙ ap (λ (v : ℕ → ℕ). v (u y)) (sym (q y)))
+
       lr : x / clusterSize s / perTable s < rootSize s 0
       lr = in-l1 x (omega arith)
 
@@ -522,96 +551,104 @@ module _ (s : List ℕ) (f : Facts s) where
       lj = mod-lt (x / clusterSize s) ep
 
       fine-w : (ls us ws : List UnitStore) (vs xs : List Store) → halves ls ≡ us ∷ ws ∷ [] → Like (clusterSize s) us vs → Like (clusterSize s) ws xs → Off vs xs
-          → Epoch (clusterSize s) (MidW (geo s) (code s) (geo-ok s f) m i j o d s) vs s
-          (λ t. Epoch (clusterSize s) (MidW (geo s) (code s) (geo-ok s f) m i j o d s) xs t (EndW (geo s) (code s) (geo-ok s f) m i j o d s))
+          → Epoch (clusterSize s) (MidW (geo s) (code s) (geo-ok s f) m u i j o d s) vs s
+          (λ t. Epoch (clusterSize s) (MidW (geo s) (code s) (geo-ok s f) m u i j o d s) xs t (EndW (geo s) (code s) (geo-ok s f) m u i j o d s))
           → Fine (write x d) (units ls)
       unfolding Exact
       fine-w ls us ws vs xs e lk lk′ off =
-          fine-by (write x d) ls us ws vs xs (MidW (geo s) (code s) (geo-ok s f) m i j o d s) (EndW (geo s) (code s) (geo-ok s f) m i j o d s) e lk lk′ off
+          fine-by (write x d) ls us ws vs xs (MidW (geo s) (code s) (geo-ok s f) m u i j o d s) (EndW (geo s) (code s) (geo-ok s f) m u i j o d s) e lk lk′ off
           (λ t h. (h .0, strong (storesCount ls) (diskSize s) (seen s) (finished (clusterSize s) (write x d) (seen s)) (seen t) (choose t (h .1)), shots t (h .1)))
-          (λ t h. (h .0, (wrote-rd t x d inC (h .1), tt), wrote-shots t i j o d iM (h .1)))
+          (λ t h. (h .0, (wrote-rd t x d inC (h .1), tt), wrote-shots t u i j o d iM (h .1)))
         where
-          choose : (t : List ℕ) → SameGuest (geo s) (code s) s t ⊎ Wrote (geo s) (code s) i j o d s t
+          choose : (t : List ℕ) → SameGuest (geo s) (code s) s t ⊎ Wrote (geo s) (code s) u i j o d s t
               → SameDisk (diskSize s) (seen t) (seen s) ⊎ SameDisk (diskSize s) (seen t) (finished (clusterSize s) (write x d) (seen s))
           choose t (inl h) = inl (same-rd s t h)
           choose t (inr h) = inr (wrote-rd t x d inC h)
 
-          shots : (t : List ℕ) → SameGuest (geo s) (code s) s t ⊎ Wrote (geo s) (code s) i j o d s t → Shots t
+          shots : (t : List ℕ) → SameGuest (geo s) (code s) s t ⊎ Wrote (geo s) (code s) u i j o d s t → Shots t
           shots t (inl h) = same-shots t h
-          shots t (inr h) = wrote-shots t i j o d iM h
+          shots t (inr h) = wrote-shots t u i j o d iM h
 
       fine-place : (us : List UnitStore) → storesCount us ≡ false → storesEntry us ≡ false → Like (clusterSize s) us (fill (dat (geo s) (code s) m i j) o d)
-          → dat (geo s) (code s) m i j ≢ 0 → refsOf (geo s) (code s) m (dat (geo s) (code s) m i j) ≤ 1 → l2 (geo s) m (tab (geo s) (code s) m i) j % 2 ≡ 0 → Fine (write x d) (units us)
+          → dat (geo s) (code s) m i j ≢ 0 → refsOf (geo s) (code s) m (dat (geo s) (code s) m i j) ≤ 1 → mark (geo s) (code s) m i j ≡ 0 → Fine (write x d) (units us)
       unfolding Exact Fed
       fine-place us quiet plain lk dn one fl =
-          fine-by (write x d) us us [] _ [] (MidP (geo s) (code s) (geo-ok s f) m i j o d s) (EndW (geo s) (code s) (geo-ok s f) m i j o d s) (halves-none us plain) lk none eachNone
+          fine-by (write x d) us us [] _ [] (MidP (geo s) (code s) (geo-ok s f) m u i j o d s) (EndW (geo s) (code s) (geo-ok s f) m u i j o d s) (halves-none us plain) lk none eachNone
           (λ t h. (
             h .0,
-            λ u. subst (λ (b : Bool). Fed (Stopped u) b (diskSize s) (seen s) (finished (clusterSize s) (write x d) (seen s)) (seen t)) (sym quiet) (part-rd t x d inC (h .1)),
-            wrote-shots t i j o (h .1 .bytes) iM (h .1 .wrote),
+            λ n. subst (λ (b : Bool). Fed (Stopped n) b (diskSize s) (seen s) (finished (clusterSize s) (write x d) (seen s)) (seen t)) (sym quiet) (part-rd t x d inC (h .1)),
+            wrote-shots t u i j o (h .1 .bytes) iM (h .1 .wrote),
           ))
-          (λ t h. (h .0, (wrote-rd t x d inC (h .1), tt), wrote-shots t i j o d iM (h .1)))
-          (epoch-only (clusterSize s) (MidP (geo s) (code s) (geo-ok s f) m i j o d s) _ s (EndW (geo s) (code s) (geo-ok s f) m i j o d s)
-          (place-run (geo s) (code s) (geo-ok s f) m s k i j o d li lj inC sm dn one fl))
+          (λ t h. (h .0, (wrote-rd t x d inC (h .1), tt), wrote-shots t u i j o d iM (h .1)))
+          (epoch-only (clusterSize s) (MidP (geo s) (code s) (geo-ok s f) m u i j o d s) _ s (EndW (geo s) (code s) (geo-ok s f) m u i j o d s)
+          (place-run (geo s) (code s) (geo-ok s f) m s k u i j o d li lj inC sm dn one fl))
 
-      fine-new : (a c : ℕ) → a ≡ tab (geo s) (code s) m i * clusterSize s + 8 * j → tab (geo s) (code s) m i ≢ 0 → dat (geo s) (code s) m i j ≡ 0
-          → refsOf (geo s) (code s) m (tab (geo s) (code s) m i) ≤ 1 → (c < clusters s → cnt (geo s) m c ≡ 0) → Fine (write x d) (writeNew s a c o d)
+      fine-new : (a c : ℕ) (bs : List ℕ) → Whole bs → a ≡ tab (geo s) (code s) m i * clusterSize s + 8 * j → tab (geo s) (code s) m i ≢ 0 → dat (geo s) (code s) m i j ≡ 0
+          → refsOf (geo s) (code s) m (tab (geo s) (code s) m i) ≤ 1 → (c < clusters s → cnt (geo s) m c ≡ 0) → Fine (write x d) (writeNew s a c bs)
       unfolding writeNew allot
-      fine-new a c at tn dz one z =
+      fine-new a c bs whole at tn dz one z =
           if-elim (Fine (write x d)) (leb (clusters s) c) _ _ (λ h. fine-refused (write x d) 14)
           (λ h. let l : c < clusters s = leb-false _ _ h in
           fine-w _ _ _ _ _ (halves-entry _ a _)
           (also (λ t. count-like s f c 1 l t) (count-aside s f snd c 1 l)
-          (like-cluster (clusterSize s) (c * clusterSize s) c o d refl inC (empty c l (z l))))
+          (like-whole (clusterSize s) (c * clusterSize s) c bs refl (whole .len) (empty c l (z l))))
           (also (λ t. entry-like s f a (tab (geo s) (code s) m i) j _ _ at lj refl t) (entry-aside s f _ j _ tn) none)
-          (off-new s f snd i li j c 1 _ _ l (unused c l (z l)) tn one)
-          (alloc-run (geo s) (code s) (geo-ok s f) m s k i j o d li lj inC sm c l (z l) tn dz one))
+          (off-new s f snd i li j c 1 _ bs l (unused c l (z l)) tn one)
+          (alloc-run (geo s) (code s) (geo-ok s f) m s k u i j o d li lj inC bs whole c l (z l) tn dz one))
 
-      fine-table : (t c : ℕ) → tab (geo s) (code s) m i ≡ 0 → (c < clusters s → t < c) → (t < clusters s → cnt (geo s) m t ≡ 0) → (c < clusters s → cnt (geo s) m c ≡ 0)
-          → Fine (write x d) (writeTable s (x / clusterSize s) t c o d)
+      fine-table : (t c : ℕ) (bs : List ℕ) → Whole bs → tab (geo s) (code s) m i ≡ 0 → (c < clusters s → t < c) → (t < clusters s → cnt (geo s) m t ≡ 0) → (c < clusters s → cnt (geo s) m c ≡ 0)
+          → Fine (write x d) (writeTable s (x / clusterSize s) t c bs)
       unfolding writeTable allot
-      fine-table t c tz tc zt zc =
+      fine-table t c bs whole tz tc zt zc =
           if-elim (Fine (write x d)) (leb (clusters s) c) _ _ (λ h. fine-refused (write x d) 14)
           (λ h. let l : c < clusters s = leb-false _ _ h in
           let b : t < c = tc l in
           fine-w _ _ _ _ _ (halves-table (allot s t _) (allot s c _) _ _ _)
-          (like-append (also (λ r. count-like s f t 1 (omega arith) r) (count-aside s f snd t 1 (omega arith)) (like-fill (clusterSize s) (t * clusterSize s) t 0 _ (sym (add-zero _)) (omega (arith, length-replicate {A = ℕ} (clusterSize s) 0)) (empty t (omega arith) (zt (omega arith)))))
+          (like-append (also (λ r. count-like s f t 1 (omega arith) r) (count-aside s f snd t 1 (omega arith)) (like-whole (clusterSize s) (t * clusterSize s) t _ refl (length-replicate {A = ℕ} (clusterSize s) 0) (empty t (omega arith) (zt (omega arith)))))
           (like-append
           (also (λ r. count-like s f c 1 l r) (count-aside s f snd c 1 l)
-          (like-cluster (clusterSize s) (c * clusterSize s) c o d refl inC (empty c l (zc l))))
+          (like-whole (clusterSize s) (c * clusterSize s) c bs refl (whole .len) (empty c l (zc l))))
           (also (λ r. entry-like s f _ t j _ _ refl lj refl r) (entry-aside s f t j _ (empty t (omega arith) (zt (omega arith)))) none)))
           (also (λ r. link-like s f (x / clusterSize s) _ (omega (arith, iM)) r) (link-aside s f snd i _ li hi) none)
-          (off-table s f snd i li hi j t c 1 1 _ _ _ _ (omega arith) l (unused t (omega arith) (zt (omega arith))) (unused c l (zc l)))
-          (table-run (geo s) (code s) (geo-ok s f) m s k i j o d li lj inC sm t c (omega arith) l (omega arith) (zt (omega arith)) (zc l) hi tz))
+          (off-table s f snd i li hi j t c 1 1 _ _ _ bs (omega arith) l (unused t (omega arith) (zt (omega arith))) (unused c l (zc l)))
+          (table-run (geo s) (code s) (geo-ok s f) m s k u i j o d li lj inC bs whole t c (omega arith) l (omega arith) (zt (omega arith)) (zc l) hi tz))
 
-      fine-slot : (a e : ℕ) → Own s f (x / clusterSize s) a e → Fine (write x d) (writeSlot s a e o d)
-      unfolding writeSlot zeroMark
+      fine-slot : (a e : ℕ) → Own s f (x / clusterSize s) a e → Fine (write x d) (writeSlot backing s (x / clusterSize s) a e o d)
+      unfolding writeSlot newBytes zeroMark
       fine-slot a e w =
           if-elim (Fine (write x d)) (eqb (place e) 0) _ _
-          (λ z. fine-new a (freeFrom s 0) (h .place-is) (h .table) (dat-zero s f 0 _ a e h (eqb-true _ _ z)) (w .lone) (λ l. free-is 0 l .1))
+          (λ z. fine-new a (freeFrom s 0) _ (bytes z) (h .place-is) (h .table) (dat-zero s f 0 _ a e h (eqb-true _ _ z)) (w .lone) (λ l. free-is 0 l .1))
           (λ z. let dn = dat-some-own s f 0 _ a e h (eqb-false _ _ z) in
           if-elim (Fine (write x d)) (eqb (e % 2) 1) _ _
-          (λ b. fine-w _ _ _ _ _ (halves-entry _ a _)
-          (like-cluster (clusterSize s) (place e) (dat (geo s) (code s) m i j) o d (sym (dat-place s f 0 _ a e h)) inC dn)
+          (λ b. let whole = whole-zeros (marked b) in
+          fine-w _ _ _ _ _ (halves-entry _ a _)
+          (like-whole (clusterSize s) (place e) (dat (geo s) (code s) m i j) _ (sym (dat-place s f 0 _ a e h)) (whole .len) dn)
           (also (λ t. entry-like s f a (tab (geo s) (code s) m i) j _ _ (h .place-is) lj (ap newEntry (sym (dat-place s f 0 _ a e h))) t) (entry-aside s f _ j _ (h .table)) none)
           (off-slot s f snd i li j _ _ lj (h .table) (w .lone))
-          (marked-run (geo s) (code s) (geo-ok s f) m s k i j o d li lj inC sm dn (w .lone) (w .lone-data dn) (λ y. omega (arith, eqb-true (e % 2) 1 b, flag, y))))
+          (marked-run (geo s) (code s) (geo-ok s f) m s k u i j o d li lj inC _ whole dn (w .lone) (w .lone-data dn) (marked b)))
           (λ b. fine-place _ (fill-quiet (place e + o) d) (fill-plain (place e + o) d) (like-fill (clusterSize s) (place e + o) (dat (geo s) (code s) m i j) o d (ap (λ (y : ℕ). y + o) (sym (dat-place s f 0 _ a e h))) inC dn) dn (w .lone-data dn)
-          (sym flag ∙ even (eqb-false _ _ b))))
+          (plain b)))
         where
           h : Slot s f 0 (x / clusterSize s) a e
           h = w .way-slot
 
-          flag : e % 2 ≡ l2 (geo s) m (tab (geo s) (code s) m i) j % 2
-          flag = ap (λ (y : ℕ). y % 2) (h .entry-is)
+          flag : mark (geo s) (code s) m i j ≡ e % 2
+          flag = mark-own s f 0 (x / clusterSize s) a e h
 
-          even : e % 2 ≢ 1 → e % 2 ≡ 0
-          even n = omega arith
+          marked : eqb (e % 2) 1 ≡ true → mark (geo s) (code s) m i j ≢ 0
+          marked b z = omega (arith, eqb-true (e % 2) 1 b, flag, z)
 
-      fine-way : (w : Way) → OwnIs s f (x / clusterSize s) w → Fine (write x d) (writeWay s w (x / clusterSize s) o d)
+          plain : eqb (e % 2) 1 ≡ false → mark (geo s) (code s) m i j ≡ 0
+          plain b = omega (arith, eqb-false (e % 2) 1 b, flag)
+
+          bytes : eqb (place e) 0 ≡ true → Whole (if eqb (e % 2) 1 then cluster (clusterSize s) o d else splice (backingCluster backing s (x / clusterSize s)) o d)
+          bytes z = if-elim Whole (eqb (e % 2) 1) _ _ (λ b. whole-zeros (marked b))
+              (λ b. whole-backing (λ y. gread-none (geo s) (code s) m i j y (dat-zero s f 0 _ a e h (eqb-true _ _ z)) (plain b)))
+
+      fine-way : (w : Way) → OwnIs s f (x / clusterSize s) w → Fine (write x d) (writeWay backing s w (x / clusterSize s) o d)
       unfolding OwnIs writeWay
       fine-way (bad n) h = fine-refused (write x d) n
-      fine-way noTable h = fine-table (freeFrom s 0) (freeFrom s (freeFrom s 0 + 1)) h (λ l. omega (arith, free-is (freeFrom s 0 + 1) l .0)) (λ l. free-is 0 l .1) (λ l. free-is (freeFrom s 0 + 1) l .1)
+      fine-way noTable h = fine-table (freeFrom s 0) (freeFrom s (freeFrom s 0 + 1)) _ (whole-backing (λ y. gread-absent (geo s) (code s) m i j y h)) h (λ l. omega (arith, free-is (freeFrom s 0 + 1) l .0)) (λ l. free-is 0 l .1) (λ l. free-is (freeFrom s 0 + 1) l .1)
       fine-way (slot a e) h = fine-slot a e h
 
     no-bytes : (x : ℕ) (d : List ℕ) → length d ≡ 0 → SameDisk (diskSize s) (seen s) (finished (clusterSize s) (write x d) (seen s))
@@ -622,8 +659,8 @@ module _ (s : List ℕ) (f : Facts s) where
     unfolding Exact
     exact-write x d = tt
 
-    sure-write : judge s ≡ 0 → (x : ℕ) (d : List ℕ) → Bytes d → Sure (write x d) (writePlan s x d)
-    unfolding writePlan judged
+    sure-write : judge backing s ≡ 0 → (x : ℕ) (d : List ℕ) → Bytes d → Sure (write x d) (writePlan backing s x d)
+    unfolding writePlan writeList judged
     sure-write e x d sm =
         rw e
         (sure-clearing (write x d) _
@@ -637,55 +674,121 @@ module _ (s : List ℕ) (f : Facts s) where
 
     -- ---- discard
     fine-z : (c : ℕ) → c / perTable s < rootSize s 0 → (ls us ws : List UnitStore) (vs xs : List Store) → halves ls ≡ us ∷ ws ∷ [] → Like (clusterSize s) us vs → Like (clusterSize s) ws xs → Off vs xs
-        → Epoch (clusterSize s) (MidZ (geo s) (code s) (geo-ok s f) m (nr 0 (c / perTable s)) (c % perTable s) s) vs s
-        (λ t. Epoch (clusterSize s) (MidZ (geo s) (code s) (geo-ok s f) m (nr 0 (c / perTable s)) (c % perTable s) s) xs t (EndZ (geo s) (code s) (geo-ok s f) m (nr 0 (c / perTable s)) (c % perTable s) s))
+        → Epoch (clusterSize s) (MidZ (geo s) (code s) (geo-ok s f) m (beneath c) (nr 0 (c / perTable s)) (c % perTable s) s) vs s
+        (λ t. Epoch (clusterSize s) (MidZ (geo s) (code s) (geo-ok s f) m (beneath c) (nr 0 (c / perTable s)) (c % perTable s) s) xs t (EndZ (geo s) (code s) (geo-ok s f) m (beneath c) (nr 0 (c / perTable s)) (c % perTable s) s))
         → Fine (discard c) (units ls)
     unfolding Exact
     fine-z c lc ls us ws vs xs e lk lk′ off =
-        fine-by (discard c) ls us ws vs xs (MidZ (geo s) (code s) (geo-ok s f) m (nr 0 (c / perTable s)) (c % perTable s) s) (EndZ (geo s) (code s) (geo-ok s f) m (nr 0 (c / perTable s)) (c % perTable s) s) e lk lk′ off
+        fine-by (discard c) ls us ws vs xs (MidZ (geo s) (code s) (geo-ok s f) m (beneath c) (nr 0 (c / perTable s)) (c % perTable s) s) (EndZ (geo s) (code s) (geo-ok s f) m (beneath c) (nr 0 (c / perTable s)) (c % perTable s) s) e lk lk′ off
         (λ t h. (h .0, strong (storesCount ls) (diskSize s) (seen s) (finished (clusterSize s) (discard c) (seen s)) (seen t) (choose t (h .1)), shots t (h .1)))
-        (λ t h. (h .0, (zeroed-rd t c (h .1), tt), zeroed-shots t _ _ cM (h .1)))
+        (λ t h. (h .0, (zeroed-rd t c (h .1), tt), zeroed-shots t _ _ _ cM (h .1)))
       where
         cM : nr 0 (c / perTable s) < mostL1
         cM = omega (arith, lc, root-few s f 0 first-root)
 
-        shots : (t : List ℕ) → SameGuest (geo s) (code s) s t ⊎ Zeroed (geo s) (code s) (nr 0 (c / perTable s)) (c % perTable s) s t → Shots t
+        shots : (t : List ℕ) → SameGuest (geo s) (code s) s t ⊎ Zeroed (geo s) (code s) (beneath c) (nr 0 (c / perTable s)) (c % perTable s) s t → Shots t
         shots t (inl h) = same-shots t h
-        shots t (inr h) = zeroed-shots t _ _ cM h
+        shots t (inr h) = zeroed-shots t _ _ _ cM h
 
-        choose : (t : List ℕ) → SameGuest (geo s) (code s) s t ⊎ Zeroed (geo s) (code s) (nr 0 (c / perTable s)) (c % perTable s) s t
+        choose : (t : List ℕ) → SameGuest (geo s) (code s) s t ⊎ Zeroed (geo s) (code s) (beneath c) (nr 0 (c / perTable s)) (c % perTable s) s t
             → SameDisk (diskSize s) (seen t) (seen s) ⊎ SameDisk (diskSize s) (seen t) (finished (clusterSize s) (discard c) (seen s))
         choose t (inl h) = inl (same-rd s t h)
         choose t (inr h) = inr (zeroed-rd t c h)
 
-    -- nothing there: the guest reads zeros already
-    fine-absent : (c : ℕ) → dat (geo s) (code s) m (nr 0 (c / perTable s)) (c % perTable s) ≡ 0 → Fine (discard c) (units [])
+    -- the guest reads zeros already
+    fine-absent : (c : ℕ) → ((y : ℕ) → gread (geo s) (code s) m (nr 0 (c / perTable s)) (c % perTable s) y (beneath c y) ≡ 0) → Fine (discard c) (units [])
     unfolding SameDisk finished Exact
     fine-absent c z =
         fine-none (discard c)
         (λ y l. if-elim (λ (v : ℕ). seen s y ≡ v) (eqb (y / clusterSize s) c) _ _
-        (λ e. ap (λ (x : ℕ). gread (geo s) (code s) m (nr 0 (x / perTable s)) (x % perTable s) (y % clusterSize s)) (eqb-true _ _ e)
-        ∙ gread-none (geo s) (code s) m (nr 0 (c / perTable s)) (c % perTable s) (y % clusterSize s) z)
+        (λ e. seen-beneath s y l ∙ ap (λ (x : ℕ). gread (geo s) (code s) m (nr 0 (x / perTable s)) (x % perTable s) (y % clusterSize s) (beneath x (y % clusterSize s))) (eqb-true _ _ e)
+        ∙ z (y % clusterSize s))
         (λ e. refl))
         tt
 
-    fine-drop : (c : ℕ) → c / perTable s < rootSize s 0 → (a e : ℕ) → Own s f c a e → Fine (discard c) (discardSlot s a e)
+    -- with no backing file zeros lie underneath
+    beneath-none : backed s ≡ false → (c y : ℕ) → beneath c y ≡ 0
+    unfolding backingByte
+    beneath-none b c y = if-elim (λ (v : ℕ). v ≡ 0) (ltb (c * clusterSize s + y) (diskSize s)) _ _ (λ e. if-no (backed s) _ 0 b) (λ e. refl)
+
+    -- ---- the entry that a discard leaves: the zero mark alone over a backing file, else 0
+    abbrev Cleared : Type 0
+    Cleared = ((backed s ≡ true) × (clearedEntry s ≡ 1)) ⊎ ((backed s ≡ false) × (clearedEntry s ≡ 0))
+
+    clearedEntry-is : Cleared
+    unfolding clearedEntry
+    clearedEntry-is = go (two-ways (backed s))
+      where
+        go : (backed s ≡ true) ⊎ (backed s ≡ false) → Cleared
+        go (inl b) = inl (b, if-yes (backed s) 1 0 b)
+        go (inr b) = inr (b, if-no (backed s) 1 0 b)
+
+    -- it reads as zeros
+    clearedEntry-dark : (c y : ℕ) → (clearedEntry s % 2 ≢ 0) ⊎ (beneath c y ≡ 0)
+    clearedEntry-dark c y = go clearedEntry-is
+      where
+        go : Cleared → (clearedEntry s % 2 ≢ 0) ⊎ (beneath c y ≡ 0)
+        go (inl b) = inl (λ z. omega (arith, b .1, z))
+        go (inr b) = inr (beneath-none (b .0) c y)
+
+    clearedEntry-low : clearedEntry s < 256 ^ 8
+    clearedEntry-low = go clearedEntry-is
+      where
+        go : Cleared → clearedEntry s < 256 ^ 8
+        go (inl b) = omega (arith, b .1)
+        go (inr b) = omega (arith, b .1)
+
+    clearedEntry-place : place (clearedEntry s) ≡ 0
+    unfolding place
+    clearedEntry-place = go clearedEntry-is
+      where
+        go : Cleared → place (clearedEntry s) ≡ 0
+        go (inl b) = rw (b .1) refl
+        go (inr b) = rw (b .1) refl
+
+    -- and is good but where 20 is answered
+    clearedEntry-good : (backed s && eqb (version s) 2) ≡ false → goodL2 (version s) (clusterSize s) (length s) (clearedEntry s) ≡ true
+    clearedEntry-good q = go clearedEntry-is
+      where
+        go : Cleared → goodL2 (version s) (clusterSize s) (length s) (clearedEntry s) ≡ true
+        go (inl b) = rw (b .1) (plain-good (version s) (clusterSize s) (length s) (f .kind) (rw (b .0) at q))
+        go (inr b) = rw (b .1) (geo-ok s f .laws .zero-good2)
+
+    fine-drop : (c : ℕ) → c / perTable s < rootSize s 0 → (a e : ℕ) → (backed s && eqb (version s) 2) ≡ false → Own s f c a e → Fine (discard c) (discardSlot s a e)
     unfolding discardSlot setCount
-    fine-drop c lc a e w =
-        if-elim (Fine (discard c)) (eqb e 0) _ _ (λ z. fine-absent c (dat-zero s f 0 c a e h (zero-place e (eqb-true _ _ z))))
+    fine-drop c lc a e v w =
+        if-elim (Fine (discard c)) (eqb e (clearedEntry s)) _ _ (λ z. fine-absent c (already (eqb-true _ _ z)))
         (λ z. if-elim (Fine (discard c)) (eqb (place e) 0) _ _
-        (λ p. fine-z c lc _ _ _ _ _ (halves-entry [] a 0) none (also (λ t. entry-like s f a (tab (geo s) (code s) m (nr 0 (c / perTable s))) (c % perTable s) _ _ (h .place-is) (mod-lt c ep) refl t) (entry-aside s f _ (c % perTable s) _ (h .table)) none)
+        (λ p. fine-z c lc _ _ _ _ _ (halves-entry [] a (clearedEntry s)) none (also (λ t. entry-like s f a (tab (geo s) (code s) m (nr 0 (c / perTable s))) (c % perTable s) _ _ (h .place-is) (mod-lt c ep) refl t) (entry-aside s f _ (c % perTable s) _ (h .table)) none)
         (eachAlso eachNone eachNone)
-        (epoch-late C (MidZ (geo s) (code s) (geo-ok s f) m (nr 0 (c / perTable s)) (c % perTable s) s) _ s (EndZ (geo s) (code s) (geo-ok s f) m (nr 0 (c / perTable s)) (c % perTable s) s)
-        (unmark-run (geo s) (code s) (geo-ok s f) m s k (nr 0 (c / perTable s)) (c % perTable s) (nr-l1 _ lc) (mod-lt c ep) (h .table) (dat-zero s f 0 c a e h (eqb-true _ _ p)) (w .lone))))
+        (epoch-late C (MidZ (geo s) (code s) (geo-ok s f) m (beneath c) (nr 0 (c / perTable s)) (c % perTable s) s) _ s (EndZ (geo s) (code s) (geo-ok s f) m (beneath c) (nr 0 (c / perTable s)) (c % perTable s) s)
+        (unmark-run (geo s) (code s) (geo-ok s f) m s k (nr 0 (c / perTable s)) (c % perTable s) (nr-l1 _ lc) (mod-lt c ep) (beneath c) (clearedEntry s) (clearedEntry-good v) clearedEntry-low bare (λ y l. clearedEntry-dark c y) (h .table) (dat-zero s f 0 c a e h (eqb-true _ _ p)) (w .lone))))
         (λ p. if-elim (Fine (discard c)) (eqb (countOf s (place e / clusterSize s)) 0) _ _ (λ n. fine-refused (discard c) 16)
-        (λ n. fine-z c lc _ _ _ _ _ (halves-drop a 0 _ _ _) (also (λ t. entry-like s f a (tab (geo s) (code s) m (nr 0 (c / perTable s))) (c % perTable s) _ _ (h .place-is) (mod-lt c ep) refl t) (entry-aside s f _ (c % perTable s) _ (h .table)) none)
+        (λ n. fine-z c lc _ _ _ _ _ (halves-drop a (clearedEntry s) _ _ _) (also (λ t. entry-like s f a (tab (geo s) (code s) m (nr 0 (c / perTable s))) (c % perTable s) _ _ (h .place-is) (mod-lt c ep) refl t) (entry-aside s f _ (c % perTable s) _ (h .table)) none)
         (also (λ t. freed t) (count-aside s f snd _ _ inN) none)
-        (off-drop s f snd (nr 0 (c / perTable s)) (nr-l1 _ lc) (c % perTable s) _ _ 0 inN (h .table) (w .lone))
-        (discard-run (geo s) (code s) (geo-ok s f) m s k (nr 0 (c / perTable s)) (c % perTable s) (nr-l1 _ lc) (mod-lt c ep) (dat-some-own s f 0 c a e h (eqb-false _ _ p)) (w .lone) (w .lone-data (dat-some-own s f 0 c a e h (eqb-false _ _ p)))))))
+        (off-drop s f snd (nr 0 (c / perTable s)) (nr-l1 _ lc) (c % perTable s) _ _ (clearedEntry s) inN (h .table) (w .lone))
+        (discard-run (geo s) (code s) (geo-ok s f) m s k (nr 0 (c / perTable s)) (c % perTable s) (nr-l1 _ lc) (mod-lt c ep) (beneath c) (clearedEntry s) (clearedEntry-good v) clearedEntry-low bare (λ y l. clearedEntry-dark c y) (dat-some-own s f 0 c a e h (eqb-false _ _ p)) (w .lone) (w .lone-data (dat-some-own s f 0 c a e h (eqb-false _ _ p)))))))
       where
         h : Slot s f 0 c a e
         h = w .way-slot
+
+        bare : place (clearedEntry s) / clusterSize s ≡ 0
+        bare = ap (λ (y : ℕ). y / clusterSize s) clearedEntry-place ∙ zero-div (clusterSize s)
+
+        -- the entry says zeros already
+        already : e ≡ clearedEntry s → (y : ℕ) → gread (geo s) (code s) m (nr 0 (c / perTable s)) (c % perTable s) y (beneath c y) ≡ 0
+        already z y = go (clearedEntry-dark c y)
+          where
+            flag : mark (geo s) (code s) m (nr 0 (c / perTable s)) (c % perTable s) ≡ clearedEntry s % 2
+            flag = mark-own s f 0 c a e h ∙ ap (λ (v : ℕ). v % 2) z
+
+            go : (clearedEntry s % 2 ≢ 0) ⊎ (beneath c y ≡ 0) → gread (geo s) (code s) m (nr 0 (c / perTable s)) (c % perTable s) y (beneath c y) ≡ 0
+            go (inl d) = ap (λ (v : ℕ → ℕ). v (beneath c y)) (gread-marked (geo s) (code s) m _ _ y (λ q. d (sym flag ∙ q)))
+            go (inr d) = dim (ℕ-discrete (mark (geo s) (code s) m (nr 0 (c / perTable s)) (c % perTable s)) 0)
+              where
+                dim : Dec (mark (geo s) (code s) m (nr 0 (c / perTable s)) (c % perTable s) ≡ 0) → gread (geo s) (code s) m (nr 0 (c / perTable s)) (c % perTable s) y (beneath c y) ≡ 0
+                dim (no n) = ap (λ (v : ℕ → ℕ). v (beneath c y)) (gread-marked (geo s) (code s) m _ _ y n)
+                dim (yes n) = ap (λ (v : ℕ → ℕ). v (beneath c y)) (gread-none (geo s) (code s) m _ _ y (dat-zero s f 0 c a e h (ap place z ∙ clearedEntry-place)) n) ∙ d
 
         q : place e / clusterSize s ≡ dat (geo s) (code s) m (nr 0 (c / perTable s)) (c % perTable s)
         q = sym (dat-own s f 0 c a e h)
@@ -710,11 +813,13 @@ module _ (s : List ℕ) (f : Facts s) where
     fine-discard-way : (c : ℕ) → c / perTable s < rootSize s 0 → (w : Way) → OwnIs s f c w → Fine (discard c) (discardWay s w)
     unfolding OwnIs discardWay
     fine-discard-way c l (bad n) h = fine-refused (discard c) n
-    fine-discard-way c l noTable h = fine-absent c (dat-none (geo s) (code s) m (nr 0 (c / perTable s)) (c % perTable s) h)
-    fine-discard-way c l (slot a e) h = fine-drop c l a e h
+    fine-discard-way c l noTable h =
+        if-elim (Fine (discard c)) (backed s) _ _ (λ b. fine-refused (discard c) 20)
+        (λ b. fine-absent c (λ y. ap (λ (v : ℕ → ℕ). v (beneath c y)) (gread-absent (geo s) (code s) m (nr 0 (c / perTable s)) (c % perTable s) y h) ∙ beneath-none b c y))
+    fine-discard-way c l (slot a e) h = if-elim (Fine (discard c)) (backed s && eqb (version s) 2) _ _ (λ b. fine-refused (discard c) 20) (λ b. fine-drop c l a e b h)
 
-    sure-discard : judge s ≡ 0 → (c : ℕ) → Sure (discard c) (discardPlan s c)
-    unfolding discardPlan judged
+    sure-discard : judge backing s ≡ 0 → (c : ℕ) → Sure (discard c) (discardPlan backing s c)
+    unfolding discardPlan discardList judged
     sure-discard e c =
         rw e
         (sure-clearing (discard c) _
@@ -748,14 +853,14 @@ module _ (s : List ℕ) (f : Facts s) where
     fine-verdict n (Short c) q = fine-refused (repair n) 17
     fine-verdict n (NotChecked c) q = fine-refused (repair n) c
 
-    sure-repair : judge s ≡ 0 → (n : ℕ) → Sure (repair n) (repairPlan s n)
-    unfolding repairPlan judged
+    sure-repair : judge backing s ≡ 0 → (n : ℕ) → Sure (repair n) (repairPlan backing s n)
+    unfolding repairPlan repairList judged
     sure-repair e n =
         rw e
         (sure-clearing (repair n) _
         (if-elim (Fine (repair n)) (ltb n (2 * clusters s)) _ _ (λ b. fine-refused (repair n) 15) (λ b. fine-verdict n (verdict s) refl)))
 
-    pub plan-sure : judge s ≡ 0 → (r : Request) → BytesOf r → Sure r (planOf s r)
+    pub plan-sure : judge backing s ≡ 0 → (r : Request) → BytesOf r → Sure r (planOf backing s r)
     unfolding BytesOf planOf
     plan-sure e (write x d) sm = sure-write e x d sm
     plan-sure e (discard c) sm = sure-discard e c

@@ -10,8 +10,8 @@ use lib.Dec.{leb, ltb, eqb}
 use lib.ListN.{length, getD}
 use borrow.Author.Tests.{ltb-false, leb-false, eqb-true, eqb-false, ne-eqb, not-false}
 use Rattle.cuts.proofs.Cell.{mem}
-use Rattle.cuts.proofs.Meta.{Geo, Codec, l1, l2, tab, dat, refsOf, Sound, dat-none, dat-some}
-use Rattle.cuts.proofs.Step.{gread, gread-none}
+use Rattle.cuts.proofs.Meta.{Geo, Codec, l1, l2, tab, dat, mark, refsOf, Sound, dat-some, mark-some}
+use Rattle.cuts.proofs.Step.{gread, gread-none, gread-absent}
 use Rattle.cuts.proofs.Write.{gread-shown, gread-marked}
 use Rattle.choice.specs.Pick.{each}
 use Rattle.endian.specs.Big.{be64, part}
@@ -19,7 +19,7 @@ use Rattle.qcow2_spec.specs.Header.{mostL1, version, clusterSize, perTab
 use Rattle.qcow2_spec.specs.Entries.{place, alone, goodL1, goodL2, common, compressed, zeroMark}
 use Rattle.qcow2_spec.specs.declared.Way.{Way}
 use Rattle.qcow2_spec.specs.declared.Way.the-variants.{Bad as bad, NoTable as noTable, Slot as slot}
-use Rattle.qcow2_spec.specs.Guest.{l1EntryAt, l1Entry, entryWay, l2Way, way, entryGives, wayGives, foundByte, located, guestByte, guestBytes, wayNumber, waysNumber, reach, outside, touched, readNumber, readInto}
+use Rattle.qcow2_spec.specs.Guest.{l1EntryAt, l1Entry, entryWay, l2Way, way, entryGives, wayGives, backingByte, foundByte, located, guestByte, guestBytes, wayNumber, waysNumber, reach, outside, touched, rangeNumber, rangeInto, readNumber, readInto}
 use Rattle.qcow2_spec.specs.declared.Found.{Found}
 use Rattle.qcow2_spec.specs.Store.{ownSlot, ownWay}
 use Rattle.choice.proofs.Tests.{true-not-false, if-no, if-elim, and-true, or-false}
@@ -29,9 +29,9 @@ use Rattle.qcow2_spec.proofs.Geo.{nr, geo, code, geo-ok}
 use Rattle.qcow2_spec.proofs.Kept.{l1-at, l2-at}
 use Rattle.qcow2_spec.proofs.Refers.{placed1, placed2, div-back, div-none}
 
--- the machinery's byte of the disk of L1 table t
-abbrev pub rd : Geo → Codec → List ℕ → (t y : ℕ) → ℕ
-rd g K s t y = gread g K (mem (g .C) s) (t * g .M + y / g .C / g .E) (y / g .C % g .E) (y % g .C)
+-- the machinery's byte of the disk of L1 table t, where the bytes u lie underneath
+abbrev pub rd : Geo → Codec → (u : ℕ → ℕ) → List ℕ → (t y : ℕ) → ℕ
+rd g K u s t y = gread g K (mem (g .C) s) (t * g .M + y / g .C / g .E) (y / g .C % g .E) (y % g .C) (u y)
 
 good-plain : (v C n e : ℕ) → goodL2 v C n e ≡ true → compressed e ≡ false
 unfolding goodL2
@@ -156,23 +156,27 @@ module _ (s : List ℕ) (f : Facts s) where
     pub dat-place : dat (geo s) (code s) m (entryNr t g) (g % perTable s) * clusterSize s ≡ place e
     dat-place = ap (λ (x : ℕ). x * clusterSize s) dat-own ∙ div-back (clusterSize s) (place e) (placed2 s f e (h .good) .whole)
 
+    pub mark-own : mark (geo s) (code s) m (entryNr t g) (g % perTable s) ≡ e % 2
+    mark-own = mark-some (geo s) (code s) m (entryNr t g) (g % perTable s) (h .table) ∙ ap (λ (x : ℕ). x % 2) (sym (h .entry-is))
+
     pub dat-zero : place e ≡ 0 → dat (geo s) (code s) m (entryNr t g) (g % perTable s) ≡ 0
     dat-zero z = dat-own ∙ ap (λ (x : ℕ). x / clusterSize s) z ∙ zero-div (clusterSize s)
 
     pub dat-some-own : place e ≢ 0 → dat (geo s) (code s) m (entryNr t g) (g % perTable s) ≢ 0
     dat-some-own d z = d (div-none (clusterSize s) (place e) (placed2 s f e (h .good) .whole) (sym dat-own ∙ z))
 
-  byte-gives : (t g o : ℕ) (w : Way) → WayIs t g w → Open w → foundByte s (wayGives w o) ≡ gread (geo s) (code s) m (entryNr t g) (g % perTable s) o
+  byte-gives : (backing : List ℕ) (t g o x : ℕ) (w : Way) → WayIs t g w → Open w
+      → foundByte backing s x (wayGives w o) ≡ gread (geo s) (code s) m (entryNr t g) (g % perTable s) o (backingByte backing s x)
   unfolding WayIs Open foundByte wayGives entryGives zeroMark
-  byte-gives t g o (bad k) h n = absurd n
-  byte-gives t g o noTable h n = sym (gread-none (geo s) (code s) m (entryNr t g) (g % perTable s) o (dat-none (geo s) (code s) m (entryNr t g) (g % perTable s) h))
-  byte-gives t g o (slot a e) h n =
-      if-elim (λ (x : Found). foundByte s x ≡ gread (geo s) (code s) m i j o) (eqb (e % 2) 1) _ _
-      (λ z. sym (gread-marked (geo s) (code s) m i j o (λ y. omega (arith, eqb-true (e % 2) 1 z, flag, y))))
-      (λ z. if-elim (λ (x : Found). foundByte s x ≡ gread (geo s) (code s) m i j o) (eqb (place e) 0) _ _
-      (λ p. sym (gread-none (geo s) (code s) m i j o (dat-zero t g a e h (eqb-true _ _ p))))
-      (λ p. sym (gread-shown (geo s) (code s) m i j o (dat-some-own t g a e h (eqb-false _ _ p)) (sym flag ∙ even (eqb-false _ _ z))
-      ∙ ap (λ (x : ℕ). getD s (x + o) 0) (dat-place t g a e h))))
+  byte-gives backing t g o x (bad k) h n = absurd n
+  byte-gives backing t g o x noTable h n = ap (λ (f : ℕ → ℕ). f (backingByte backing s x)) (sym (gread-absent (geo s) (code s) m (entryNr t g) (g % perTable s) o h))
+  byte-gives backing t g o x (slot a e) h n =
+      if-elim (λ (y : Found). foundByte backing s x y ≡ gread (geo s) (code s) m i j o u) (eqb (e % 2) 1) _ _
+      (λ z. ap (λ (f : ℕ → ℕ). f u) (sym (gread-marked (geo s) (code s) m i j o (λ y. omega (arith, eqb-true (e % 2) 1 z, mark-own t g a e h, y)))))
+      (λ z. if-elim (λ (y : Found). foundByte backing s x y ≡ gread (geo s) (code s) m i j o u) (eqb (place e) 0) _ _
+      (λ p. ap (λ (f : ℕ → ℕ). f u) (sym (gread-none (geo s) (code s) m i j o (dat-zero t g a e h (eqb-true _ _ p)) (mark-own t g a e h ∙ even (eqb-false _ _ z)))))
+      (λ p. sym (gread-shown (geo s) (code s) m i j o u (dat-some-own t g a e h (eqb-false _ _ p)) (mark-own t g a e h ∙ even (eqb-false _ _ z))
+      ∙ ap (λ (y : ℕ). getD s (y + o) 0) (dat-place t g a e h))))
     where
       i : ℕ
       i = entryNr t g
@@ -180,8 +184,8 @@ module _ (s : List ℕ) (f : Facts s) where
       j : ℕ
       j = g % perTable s
 
-      flag : e % 2 ≡ l2 (geo s) m (tab (geo s) (code s) m i) j % 2
-      flag = ap (λ (x : ℕ). x % 2) (h .entry-is)
+      u : ℕ
+      u = backingByte backing s x
 
       even : e % 2 ≢ 1 → e % 2 ≡ 0
       even d = omega arith
@@ -195,10 +199,10 @@ module _ (s : List ℕ) (f : Facts s) where
   pub in-root : (t y : ℕ) → y < reach s t → y / clusterSize s / perTable s < rootSize s t
   in-root t y l = div-lt-iff-lt-mul e-pos .1 (div-lt-iff-lt-mul (c-pos s f) .1 (omega (arith, reach-in t)))
 
-  pub guest-rd : Sound (geo s) (code s) m → (t : ℕ) → t < roots s → (y : ℕ) → y < reach s t → guestByte s t y ≡ rd (geo s) (code s) s t y
+  pub guest-rd : (backing : List ℕ) → Sound (geo s) (code s) m → (t : ℕ) → t < roots s → (y : ℕ) → y < reach s t → guestByte backing s t y ≡ rd (geo s) (code s) (backingByte backing s) s t y
   unfolding guestByte located
-  guest-rd k t h y l =
-      byte-gives t (y / clusterSize s) (y % clusterSize s) (way s t (y / clusterSize s)) (way-is t h (y / clusterSize s) (in-root t y l)) (way-open t h (y / clusterSize s) (in-root t y l) k)
+  guest-rd backing k t h y l =
+      byte-gives backing t (y / clusterSize s) (y % clusterSize s) y (way s t (y / clusterSize s)) (way-is t h (y / clusterSize s) (in-root t y l)) (way-open t h (y / clusterSize s) (in-root t y l) k)
 
   -- ---- reads
   ways-open : (t k g : ℕ) → ((y : ℕ) → g ≤ y → y < g + k → wayNumber (way s t y) ≡ 0) → waysNumber s t g k ≡ 0
@@ -222,20 +226,24 @@ module _ (s : List ℕ) (f : Facts s) where
       let q = or-false (leb (roots s) t) _ (p .0) in
       (leb-false (roots s) t (q .0), omega (arith, ltb-false (reach s t) x (q .1), ltb-false (reach s t - x) len (p .1)))
 
-  pub accepted : judge s ≡ 0 → Sound (geo s) (code s) m → (t x len : ℕ) → outside s t x len ≡ false → readNumber s t x len ≡ 0
-  unfolding readNumber
-  accepted e k t x len h =
-      rw (e, h) (ways-open t (touched (clusterSize s) x len) (x / clusterSize s)
+  range-accepted : Sound (geo s) (code s) m → (t x len : ℕ) → outside s t x len ≡ false → rangeNumber s t x len ≡ 0
+  unfolding rangeNumber
+  range-accepted k t x len h =
+      rw h (ways-open t (touched (clusterSize s) x len) (x / clusterSize s)
       (λ y l n. open-number (way s t y) (way-open t (inside t x len h .0) y (touched-in t x len y (inside t x len h .1) l n) k)))
 
-  pub read-whole : judge s ≡ 0 → Sound (geo s) (code s) m → (t x : ℕ) (out : List ℕ) → outside s t x (length out) ≡ false → readInto s t x out ≡ each (guestByte s t) x (length out)
-  unfolding readInto guestBytes
-  read-whole e k t x out h = rw (accepted e k t x (length out) h) refl
+  pub accepted : (backing : List ℕ) → judge backing s ≡ 0 → Sound (geo s) (code s) m → (t x len : ℕ) → outside s t x len ≡ false → readNumber backing s t x len ≡ 0
+  unfolding readNumber
+  accepted backing e k t x len h = rw e (range-accepted k t x len h)
+
+  pub read-whole : (backing : List ℕ) → judge backing s ≡ 0 → Sound (geo s) (code s) m → (t x : ℕ) (out : List ℕ) → outside s t x (length out) ≡ false → readInto backing s t x out ≡ each (guestByte backing s t) x (length out)
+  unfolding readInto rangeInto guestBytes
+  read-whole backing e k t x out h = rw (e, range-accepted k t x (length out) h) refl
 
   -- a read that is outside leaves its output
-  pub read-outside : judge s ≡ 0 → (t x : ℕ) (out : List ℕ) → outside s t x (length out) ≡ true → readInto s t x out ≡ out
-  unfolding readInto readNumber
-  read-outside e t x out h = rw (e, h) refl
+  pub read-outside : (backing : List ℕ) → judge backing s ≡ 0 → (t x : ℕ) (out : List ℕ) → outside s t x (length out) ≡ true → readInto backing s t x out ≡ out
+  unfolding readInto rangeInto rangeNumber
+  read-outside backing e t x out h = rw (e, h) refl
 
   -- ---- the way of a write or a discard: what it changes has one reference
   common-not : (e : ℕ) → common e ≡ false → place e ≢ 0 → e / 2 ^ 63 ≡ 1

@@ -25,27 +25,30 @@ bytesNumber s t x zero = 0
 bytesNumber s t x (suc l) = unless (refusal (located s t x)) (λ k. k) (bytesNumber s t (suc x) l)
 
 -- a read's number: the image's own, then 11 where there is no such table or the range runs past what it reaches, then the first refusal of a byte
-unfoldable pub bytewise : List ℕ → (t x len : ℕ) → ℕ
-bytewise s t x len =
-    unless (judge s) (λ k. k)
+unfoldable pub bytewise : (backing s : List ℕ) → (t x len : ℕ) → ℕ
+bytewise backing s t x len =
+    unless (judge backing s) (λ k. k)
     (if leb (roots s) t then 11 else
     if ltb (reach s t) (x + len) then 11 else
     bytesNumber s t x len)
 
 -- what such a read leaves in its output: what each byte reads or, refused, what was there
-unfoldable pub bytewiseInto : List ℕ → (t x : ℕ) → List ℕ → List ℕ
-bytewiseInto s t x out = if eqb (bytewise s t x (length out)) 0 then each (λ y. foundByte s (located s t y)) x (length out) else out
+unfoldable pub bytewiseInto : (backing s : List ℕ) → (t x : ℕ) → List ℕ → List ℕ
+bytewiseInto backing s t x out =
+    if eqb (bytewise backing s t x (length out)) 0 then each (λ y. foundByte backing s y (located s t y)) x (length out) else out
 
 -- the law: every read is refused, and fills its output, as its bytes say; a translation is refused as the read of its byte is, and reads
 -- as that does
 abbrev pub Bytewise : Type 0
 Bytewise =
-    (s : List ℕ) (x : ℕ)
-    → ((t len : ℕ) → readNumber s t x len ≡ bytewise s t x len)
-    × ((t : ℕ) (out : List ℕ) → readInto s t x out ≡ bytewiseInto s t x out)
-    × (refusal (translate s x) ≡ readNumber s 0 x 1)
-    × (readInto s 0 x (0 ∷ []) ≡ foundByte s (translate s x) ∷ [])
+    (backing s : List ℕ) (x : ℕ)
+    → ((t len : ℕ) → readNumber backing s t x len ≡ bytewise backing s t x len)
+    × ((t : ℕ) (out : List ℕ) → readInto backing s t x out ≡ bytewiseInto backing s t x out)
+    × (refusal (translate backing s x) ≡ readNumber backing s 0 x 1)
+    × (readInto backing s 0 x (0 ∷ []) ≡ foundByte backing s x (translate backing s x) ∷ [])
 
 -- the law: a lookup gives what the translation of each byte from x on reads
 abbrev pub Lookups : Type 0
-Lookups = (s : List ℕ) (x : ℕ) → inPlace s x ≡ each (λ y. foundByte s (translate s y)) x (length (inPlace s x))
+Lookups =
+    (backing s : List ℕ) (x : ℕ)
+    → inPlace backing s x ≡ each (λ y. foundByte backing s y (translate backing s y)) x (length (inPlace backing s x))

@@ -20,10 +20,11 @@ pub data Request : Type 0 where
   discard : (g : ℕ) → Request
   repair : (scratch : ℕ) → Request
 
-unfoldable pub planOf : List ℕ → Request → Plan
-planOf s (write x d) = writePlan s x d
-planOf s (discard g) = discardPlan s g
-planOf s (repair n) = repairPlan s n
+-- the plan of a request; backing: the bytes of the backing file, which are lent
+unfoldable pub planOf : (backing s : List ℕ) → Request → Plan
+planOf backing s (write x d) = writePlan backing s x d
+planOf backing s (discard g) = discardPlan backing s g
+planOf backing s (repair n) = repairPlan backing s n
 
 -- the byte at y once the request is finished, with clusters of C bytes; outside the request it is the old one
 unfoldable pub finished : (C : ℕ) → Request → (disk : ℕ → ℕ) → ℕ → ℕ

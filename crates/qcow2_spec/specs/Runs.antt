@@ -72,14 +72,18 @@ runRows s t x len (suc k) =
     if eqb len 0 then [] else
     runRow (located s t x) (runLength s t x len) ++ runRows s t (x + runLength s t x len) (len - runLength s t x len) k
 
--- the number of a listing; 0 where it is accepted. A bad entry is a run of its own and no refusal
-unfoldable pub runsNumber : List ℕ → (t x len : ℕ) → ℕ
-runsNumber s t x len = unless (judge s) (λ k. k) (if outside s t x len then 11 else 0)
+-- the answer once the image is accepted: 11, or how many runs were listed. A bad entry is a run of its own and no refusal
+unfoldable pub runsListed : List ℕ → (t x len k : ℕ) → Listed
+runsListed s t x len k = if outside s t x len then NotListed 11 else Rows (length (runRows s t x len k) / 3)
+
+-- and what is left in the output, three numbers a run: the runs, then what was there; refused: nothing changes
+unfoldable pub runsPut : List ℕ → (t x len : ℕ) → List ℕ → List ℕ
+runsPut s t x len out = if outside s t x len then out else splice out 0 (runRows s t x len (length out / 3))
 
 -- the answer: a number, or how many runs were listed
-unfoldable pub listRuns : List ℕ → (t x len k : ℕ) → Listed
-listRuns s t x len k = unless (runsNumber s t x len) NotListed (Rows (length (runRows s t x len k) / 3))
+unfoldable pub listRuns : (backing s : List ℕ) → (t x len k : ℕ) → Listed
+listRuns backing s t x len k = unless (judge backing s) NotListed (runsListed s t x len k)
 
--- what a listing leaves in its output, three numbers a run: the runs, then what was there; refused: nothing changes
-unfoldable pub runsInto : List ℕ → (t x len : ℕ) → List ℕ → List ℕ
-runsInto s t x len out = if eqb (runsNumber s t x len) 0 then splice out 0 (runRows s t x len (length out / 3)) else out
+-- what a listing leaves in its output
+unfoldable pub runsInto : (backing s : List ℕ) → (t x len : ℕ) → List ℕ → List ℕ
+runsInto backing s t x len out = unless (judge backing s) (λ k. out) (runsPut s t x len out)

@@ -38,7 +38,7 @@ pub enum Verdict {
 // What an accepted image gives for the disk of one of its L1 tables: number root, 0 for the active one and k + 1 for snapshot k's. The table has
 // l1size entries and starts at l1at, and its disk has size bytes. The cluster size is 2 to the power bits, and a count has 2 to the power order
 // bits; the refcount table has tableclusters clusters and starts at tableat; blocks: the refcount blocks that the image needs; snapshots: how many
-// there are, and their table starts at snapshotsat.
+// there are, and their table starts at snapshotsat; backed: a backing file lies underneath.
 pub struct Geometry {
     pub version: u32,
     pub bits: u32,
@@ -53,6 +53,7 @@ pub struct Geometry {
     pub blocks: usize,
     pub snapshots: usize,
     pub snapshotsat: usize,
+    pub backed: bool,
 }
 
 // A header's number, or what it gives.

@@ -6,12 +6,14 @@ use mathlib.Core.Path.{_≡_, refl, sym, ap, _∙_}
 use mathlib.Core.List.{List, [], _∷_, _++_, append-nil}
 use lib.ListN.{length, take, drop}
 use lib.Seq.{take-nil, drop-nil, take-append-seam, drop-append-seam}
+use Rattle.choice.proofs.Each.{length-each}
 use Rattle.endian.specs.Big.{splice}
 use Rattle.units.specs.Units.{UnitStore}
 use Rattle.units.specs.Plan.{Plan, refused, units, planUnits}
 use Rattle.qcow2_spec.specs.declared.Listed.{Listed}
 use Rattle.qcow2_spec.specs.declared.Listed.the-variants.{Refused, Rows}
-use Rattle.qcow2_spec.specs.Store.{clearUnits, clearing}
+use Rattle.qcow2_spec.specs.Header.{clusterSize}
+use Rattle.qcow2_spec.specs.Store.{clearUnits, clearing, backingCluster}
 use Rattle.qcow2_spec.specs.Flush.{storesEntry, halves, epochs}
 use Rattle.qcow2_spec.specs.Steps.{extents, rowsOf, stepRows, steps, listSteps, rowsPut, stepsInto, Listing}
 use Rattle.qcow2_spec.specs.Check.{repairUnits}
@@ -74,3 +76,8 @@ module _ (s : List ℕ) (p : Plan) where
   unfolding clearing
   clearing-some [] e h = absurd (omega arith)
   clearing-some (u ∷ us) e h = rw e
+
+-- ---- what lies under a guest cluster has a cluster's bytes
+pub length-backing : (backing s : List ℕ) (x c : ℕ) → c ≡ clusterSize s → length (backingCluster backing s x) ≡ c
+unfolding backingCluster
+length-backing backing s x c e = length-each _ (x * clusterSize s) (clusterSize s) ∙ sym e

@@ -16,7 +16,7 @@ module _ (n : ℕ) (h : n ≤ mostLength) where
   pub job-most : (c : ℕ) (j : Job) → JobIn n c j → JobIn mostLength c j
   job-most c (Bytes p) l = omega arith
   job-most c (Marked a p) l = (omega (arith, l .0), omega (arith, l .1))
-  job-most c (New r k a p) l = (inside-most (l .0), (omega (arith, l .1 .0), omega (arith, l .1 .1)))
+  job-most c (New m r k a p) l = (inside-most (l .0), (omega (arith, l .1 .0), omega (arith, l .1 .1)))
   job-most c (Table p) l =
       record {
         tablecounted = inside-most (l .tablecounted);
@@ -29,5 +29,5 @@ module _ (n : ℕ) (h : n ≤ mostLength) where
       }
 
   pub freed-most : (f : Freed) → FreedIn n f → FreedIn mostLength f
-  freed-most (Entry a) l = omega arith
-  freed-most (Both a r k v) l = (omega (arith, l .0), inside-most (l .1))
+  freed-most (Entry a x) l = omega arith
+  freed-most (Both a x r k v) l = (omega (arith, l .0), inside-most (l .1))

@@ -28,7 +28,7 @@ fn listed(rows: &[u64], k: usize) -> Listed
     Listed::Rows(power::lesser(rows.len() / 4, k))
 }
 
-// A write of len bytes, at least one, from byte o of a guest cluster on, with the way to it.
+// A write of len bytes, at least one, from byte o of a guest cluster on, with the way to it. What lies underneath changes no row.
 pub fn write_way(
     image: &[u8],
     g: Geometry,
@@ -39,7 +39,7 @@ pub fn write_way(
     rows: &mut [u64],
 ) -> Listed
     requires { ⌜ (Active g (now image) × Ready g (now image) way guest) × ((o + len ≤ 2 ^ g .bits) × (0 < len)) ⌝ }
-    ensures { λ r. ⌜ ((d : List ℕ) → length d ≡ len → Listing (now (image .entry)) (clearing (now (image .entry)) (writeWay (now (image .entry)) way guest o d)) (now (rows .entry)) r (now (rows .exit))) ⌝ }
+    ensures { λ r. ⌜ ((backing d : List ℕ) → length d ≡ len → Listing (now (image .entry)) (clearing (now (image .entry)) (writeWay backing (now (image .entry)) way guest o d)) (now (rows .entry)) r (now (rows .exit))) ⌝ }
 {
     let found = qcow2_jobs::finding::find_job(image, g, way, guest);
     match found {

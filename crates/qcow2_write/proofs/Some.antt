@@ -12,9 +12,9 @@ use Rattle.qcow2_jobs.specs.declared.finding.Job.{Job}
 use Rattle.qcow2_jobs.specs.declared.finding.Job.the-variants.{Bytes, Marked, New, Table}
 
 -- a job with data has a unit
-pub job-some : (j : Job) (c o : ℕ) (d : List ℕ) → 0 < length d → 0 < length (jobUnits j c o d)
+pub job-some : (j : Job) (c o : ℕ) (under d : List ℕ) → 0 < length d → 0 < length (jobUnits j c o under d)
 unfolding tableUnits
-job-some (Bytes p) c o d h = omega (arith, length-fill d (p + o))
-job-some (Marked a p) c o d h = omega (arith, length-append (fill p (cluster c o d)) (entry a (newEntry p) ∷ []))
-job-some (New r n a p) c o d h = omega arith
-job-some (Table p) c o d h = omega arith
+job-some (Bytes p) c o under d h = omega (arith, length-fill d (p + o))
+job-some (Marked a p) c o under d h = omega (arith, length-append (fill p (cluster c o d)) (entry a (newEntry p) ∷ []))
+job-some (New m r n a p) c o under d h = omega arith
+job-some (Table p) c o under d h = omega arith

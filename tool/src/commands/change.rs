@@ -1,11 +1,12 @@
 //! What the commands that change an image have in common.
 
-use std::path::PathBuf;
+use std::path::{Path, PathBuf};
 
 use qcow2_core::Outcome;
 
 use super::check::check;
 use crate::autoclear;
+use crate::backing::Backing;
 use crate::call::Call;
 use crate::disk::{unflushed, Disk};
 use crate::findings;
@@ -13,6 +14,7 @@ use crate::image_file::ImageFile;
 use crate::ordered::{Fault, Ordered};
 use crate::progress::Progress;
 use crate::report::{Failure, Report};
+use crate::sentences::{Request, Subject};
 
 /// For writes and discards: only sound and leaking images, since the promise
 /// about power cuts is for them.
@@ -23,12 +25,23 @@ pub fn open_usable<D: Disk>(image: ImageFile<D>) -> Result<(PathBuf, Ordered<D>)
         let advice = findings::advice(&checked.layout, &image.bytes, checked.verdict);
         return Err(Failure::Damaged { what, json, advice: advice.into() });
     }
-    Ok((image.path, ordered(image.file, image.bytes)?))
+    let ImageFile { path, file, bytes, backing, .. } = image;
+    Ok((path, ordered(file, bytes, backing)?))
 }
 
 /// An image that a check has accepted.
-pub fn ordered<D: Disk>(file: D, bytes: Vec<u8>) -> Result<Ordered<D>, Failure> {
-    Ordered::new(file, bytes).map_err(|number| unexpected(0, number.into()))
+pub fn ordered<D: Disk>(file: D, bytes: Vec<u8>, backing: Backing) -> Result<Ordered<D>, Failure> {
+    Ordered::new(file, bytes, backing).map_err(|number| unexpected(0, number.into()))
+}
+
+/// The failure for a number that the core gave.
+pub fn refused<D: Disk>(
+    path: &Path,
+    ordered: &Ordered<D>,
+    number: u32,
+    request: Request,
+) -> Failure {
+    Subject::of(path, ordered.image(), ordered.backing()).refused(number, request)
 }
 
 /// The report, with a word on the autoclear bits if the change cleared them.

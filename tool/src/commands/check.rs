@@ -10,7 +10,7 @@ use crate::json::Json;
 use crate::layout::Layout;
 use crate::report::{Failure, Report, DAMAGED, DONE, LEAKS};
 use crate::runs;
-use crate::sentences::{Request, Subject};
+use crate::sentences::Request;
 
 /// The verdict on an accepted image, with the scratch that the check left.
 pub struct Checked {
@@ -29,7 +29,7 @@ impl Checked {
 pub fn check<D>(image: &ImageFile<D>) -> Result<Checked, Failure> {
     // Two bytes a cluster: enough for any cluster size that is accepted.
     let mut scratch = vec![0; image.bytes.len() / 256];
-    let verdict = qcow2_core::check(&image.bytes, &mut scratch);
+    let verdict = qcow2_core::check(&image.bytes, &image.backing.bytes, &mut scratch);
     let refused = |number| image.refused(number, Request::Look);
     match (verdict, Layout::of(&image.bytes)) {
         (Verdict::Refused(number), _) => Err(refused(number)),
@@ -51,9 +51,7 @@ pub fn run(image: &ImageFile) -> Result<Report, Failure> {
         (advice(image), LEAKS)
     } else {
         text += &format!("\n{}", damage.lines(&checked.layout));
-        let length = image.bytes.len() as u64;
-        let subject = Subject { path: &image.path, length, bytes: &image.bytes };
-        (subject.advice(damage.remedy()), DAMAGED)
+        (image.subject().advice(damage.remedy()), DAMAGED)
     };
     text += &format!("  {advice}\n");
     json.push(("advice", advice.into()));

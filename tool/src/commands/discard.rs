@@ -4,12 +4,13 @@ use std::ops::Range;
 
 use qcow2_core::Found;
 
-use super::change;
+use super::change::{self, refused};
 use crate::autoclear;
 use crate::call::Call;
 use crate::disk::Disk;
 use crate::guest::Runs;
-use crate::image_file::{refused, ImageFile};
+use crate::image_file::ImageFile;
+use crate::ordered::Ordered;
 use crate::report::{self, Failure, Report, DONE, FAILED};
 use crate::sentences::Request;
 
@@ -21,22 +22,21 @@ pub fn run<D: Disk>(
 ) -> Result<Report, Failure> {
     let (path, mut ordered) = change::open_usable(image)?;
     let (geometry, bits) = (ordered.geometry, autoclear::bits(ordered.image()));
-    let refuse =
-        |image: &[u8], number| refused(&path, image, number, Request::Read { offset, length });
+    let range = Request::Read { offset, length };
     let inside = offset.checked_add(length).is_some_and(|end| end <= geometry.size);
     if !inside {
-        return Err(refuse(ordered.image(), 11));
+        return Err(refused(&path, &ordered, 11, range));
     }
     are_whole(geometry.cluster_bits, geometry.size, offset, length)
         .map_err(|message| Failure::Other(format!("not changed: {message}")))?;
-    let parts = parts(ordered.image(), geometry.cluster_bits, offset, length)
-        .map_err(|number| refuse(ordered.image(), number))?;
+    let parts = parts(&ordered, offset, length)
+        .map_err(|number| refused(&path, &ordered, number, range))?;
     let calls = parts.into_iter().flatten().map(|cluster| Call::Discard { cluster });
     let total = change::trial(&mut ordered, calls.clone())?.map_err(|(index, number)| {
         let Some(Call::Discard { cluster }) = calls.clone().nth(index) else {
             return Failure::Other(format!("refused ({number})"));
         };
-        refused(&path, ordered.image(), number, Request::Discard { cluster })
+        refused(&path, &ordered, number, Request::Discard { cluster })
     })?;
     let (units, finished) = change::run(&mut ordered, "discard", total, allowance, calls)?;
     let text = if finished {
@@ -77,15 +77,16 @@ fn are_whole(bits: u32, size: u64, offset: u64, length: u64) -> Result<(), Strin
 }
 
 /// The guest clusters of a range that have to be asked for. Where nothing is
-/// allocated one below each L2 table is enough: all others there get the same
-/// answer, which is that nothing is to be stored, or that a snapshot holds the
-/// table.
-fn parts(image: &[u8], bits: u32, offset: u64, length: u64) -> Result<Vec<Range<u64>>, u32> {
+/// allocated and nothing lies underneath, one below each L2 table is enough: all
+/// others there get the same answer, which is that nothing is to be stored, or that
+/// a snapshot holds the table. Over a backing file each of them is to be marked.
+fn parts<D: Disk>(ordered: &Ordered<D>, offset: u64, length: u64) -> Result<Vec<Range<u64>>, u32> {
+    let (bits, backing) = (ordered.geometry.cluster_bits, &ordered.backing().bytes);
     let mut parts = Vec::new();
-    for (at, run) in Runs::of(image, offset, length)? {
+    for (at, run) in Runs::of(ordered.image(), backing, offset, length)? {
         let clusters = at >> bits..(at + run.length).div_ceil(1 << bits);
         match run.found {
-            Found::Absent => parts.extend(firsts(clusters, 1 << (bits - 3))),
+            Found::Absent if backing.is_empty() => parts.extend(firsts(clusters, 1 << (bits - 3))),
             _ => parts.push(clusters),
         }
     }

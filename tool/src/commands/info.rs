@@ -7,6 +7,7 @@ use std::path::Path;
 use qcow2_core::Verdict;
 
 use super::check::{check, Checked};
+use crate::backing::Backing;
 use crate::facts::{facts, Facts};
 use crate::findings;
 use crate::image_file::{ImageFile, Own};
@@ -17,29 +18,29 @@ use crate::sentences::Refusal;
 
 pub fn run(mut image: ImageFile) -> Result<Report, Failure> {
     match check(&image) {
-        Ok(checked) => Ok(accepted(&image.bytes, image.own, &checked)),
+        Ok(checked) => Ok(accepted(&image, &checked)),
         Err(Failure::Refused(_)) => {
             let length = image.bytes.len() as u64;
-            Ok(refused(&image.path, &mut image.bytes, length, image.own))
+            Ok(refused(&image.path, &mut image.bytes, length, &image.backing, image.own))
         }
         Err(failure) => Err(failure),
     }
 }
 
 /// A file that is too long to be read.
-pub fn too_long(path: &Path) -> Result<Report, Failure> {
+pub fn too_long(path: &Path, backing: &Backing) -> Result<Report, Failure> {
     let mut file = File::open(path)?;
     let length = file.metadata()?.len();
     let mut head = vec![0; 512];
     file.read_exact(&mut head)?;
     let own = Own::of(&head, length);
-    Ok(refused(path, &mut head, length, own))
+    Ok(refused(path, &mut head, length, backing, own))
 }
 
-fn accepted(bytes: &[u8], own: Own, checked: &Checked) -> Report {
-    let layout = checked.layout;
+fn accepted(image: &ImageFile, checked: &Checked) -> Report {
+    let (bytes, layout) = (&image.bytes, checked.layout);
     let (verdict, members) = checked.words(bytes);
-    let Facts { mut text, members: mut json } = facts(bytes, own);
+    let Facts { mut text, members: mut json } = facts(bytes, &image.backing, image.own);
     let free = layout.free(bytes);
     let used = layout.clusters - free;
     let leaked = match checked.verdict {
@@ -66,9 +67,9 @@ fn accepted(bytes: &[u8], own: Own, checked: &Checked) -> Report {
     Report { text, json, exit: DONE }
 }
 
-fn refused(path: &Path, bytes: &mut Vec<u8>, length: u64, own: Own) -> Report {
-    let Facts { mut text, members: mut json } = facts(bytes, own);
-    let obstacles = obstacles::of(path, bytes, length);
+fn refused(path: &Path, bytes: &mut Vec<u8>, length: u64, backing: &Backing, own: Own) -> Report {
+    let Facts { mut text, members: mut json } = facts(bytes, backing, own);
+    let obstacles = obstacles::of(path, bytes, length, backing);
     for Refusal { number, what, advice, .. } in &obstacles {
         text += &format!("refused ({number}): {what}\n  {advice}\n");
     }

@@ -21,15 +21,16 @@ impl Map {
     pub fn of(image: ImageFile) -> Result<Map, Failure> {
         let refused = |number| image.refused(number, Request::Look);
         // No run at all: the header is judged.
-        qcow2_core::runs(&image.bytes, 0, 0, &mut []).map_err(refused)?;
-        let layout = Layout::of(&image.bytes).ok_or_else(|| refused(1))?;
-        Runs::of(&image.bytes, 0, layout.size).map_err(refused)?;
+        let (bytes, backing) = (&image.bytes, &image.backing.bytes);
+        qcow2_core::runs(bytes, backing, 0, 0, &mut []).map_err(refused)?;
+        let layout = Layout::of(bytes).ok_or_else(|| refused(1))?;
+        Runs::of(bytes, backing, 0, layout.size).map_err(refused)?;
         Ok(Map { size: layout.size, image })
     }
 
     /// Writes each run; the exit code.
     fn each(&self, mut write: impl FnMut(u64, Run) -> io::Result<()>) -> io::Result<u8> {
-        let runs = Runs::of(&self.image.bytes, 0, self.size);
+        let runs = Runs::of(&self.image.bytes, &self.image.backing.bytes, 0, self.size);
         let mut exit = DONE;
         for (start, run) in runs.map_err(|number| io::Error::other(number.to_string()))? {
             if matches!(run.found, Found::Refused(_)) {

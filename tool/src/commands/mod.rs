@@ -13,23 +13,43 @@ pub mod write;
 use std::io::stdin;
 
 use crate::args::{Command, Options};
+use crate::backing::{Backing, Given, Watch};
 use crate::image_file::{notes_unread, Access, ImageFile};
 use crate::report::{Answer, Failure};
 
 /// Runs the command: what is to be noted of the conditions, and its answer.
 pub fn run(options: &Options) -> (Vec<String>, Result<Answer, Failure>) {
-    match ImageFile::open(&options.image, access(options), options.as_if_mended) {
-        Ok(mut image) => (std::mem::take(&mut image.notes), answer(options, image)),
+    let given = options.backing.as_deref().map(|path| Given { path, as_raw: options.as_raw });
+    match ImageFile::open(&options.image, access(options), options.as_if_mended, given) {
+        Ok(mut image) => {
+            let (mut notes, watch) = (std::mem::take(&mut image.notes), image.backing.watch());
+            let answer = answer(options, image);
+            notes.extend(watch.filter(|_| options.command.changes()).and_then(changed));
+            (notes, answer)
+        }
         // Opening judges only files that are too long.
         Err(Failure::Refused(refusal)) => {
             let notes = notes_unread(access(options), options.as_if_mended);
-            match options.command {
-                Command::Info => (notes, info::too_long(&options.image).map(Answer::Whole)),
-                _ => (notes, Err(Failure::Refused(refusal))),
+            if options.command != Command::Info {
+                return (notes, Err(Failure::Refused(refusal)));
             }
+            let backing = Backing::named(options.backing.as_deref());
+            (notes, info::too_long(&options.image, &backing).map(Answer::Whole))
         }
         Err(failure) => (Vec::new(), Err(failure)),
     }
+}
+
+/// The image was changed over what the backing file was at the start.
+fn changed(watch: Watch) -> Option<String> {
+    let text = match watch.has_changed() {
+        Ok(false) => return None,
+        Ok(true) => "another program changed the backing file meanwhile: what the image does not \
+                     have is read from it, so the disk has changed with it"
+            .into(),
+        Err(error) => format!("whether the backing file was changed is not known: {error}"),
+    };
+    Some(text)
 }
 
 fn access(options: &Options) -> Access {

@@ -26,7 +26,7 @@ impl Range {
     /// listed first, and one that is refused refuses the range, as a read does.
     pub fn of(image: ImageFile, offset: u64, length: u64) -> Result<Range, Failure> {
         let refuse = |number| image.refused(number, Request::Read { offset, length });
-        let runs = Runs::of(&image.bytes, offset, length).map_err(refuse)?;
+        let runs = Runs::of(&image.bytes, &image.backing.bytes, offset, length).map_err(refuse)?;
         match guest::refused(runs) {
             Some(number) => Err(refuse(number)),
             None => Ok(Range { image, offset, length }),
@@ -34,9 +34,10 @@ impl Range {
     }
 
     fn each_part(&self, part: &mut dyn FnMut(&[u8]) -> io::Result<()>) -> io::Result<()> {
-        let runs = Runs::of(&self.image.bytes, self.offset, self.length)
+        let ImageFile { bytes, backing, .. } = &self.image;
+        let runs = Runs::of(bytes, &backing.bytes, self.offset, self.length)
             .map_err(|number| io::Error::other(number.to_string()))?;
-        each_part(&self.image.bytes, runs, self.length, part)
+        each_part([bytes, &backing.bytes], runs, self.length, part)
     }
 }
 
@@ -73,25 +74,28 @@ fn hex(byte: u8) -> [u8; 2] {
     [DIGITS[usize::from(byte >> 4)], DIGITS[usize::from(byte & 15)]]
 }
 
-/// The bytes of the runs in parts, each straight from the image.
+/// The bytes of the runs in parts, each straight from the image or from the
+/// backing file. Of that there are none where the image is over no such file.
 fn each_part(
-    image: &[u8],
+    [image, backing]: [&[u8]; 2],
     runs: impl Iterator<Item = (u64, Run)>,
     total: u64,
     part: &mut dyn FnMut(&[u8]) -> io::Result<()>,
 ) -> io::Result<()> {
     let (mut progress, mut done) = (Progress::new("reading", total), 0);
     let zeros = vec![0; PORTION];
-    for (_, run) in runs {
+    for (at, run) in runs {
         let mut inside = 0;
         while inside < run.length {
-            let length = (run.length - inside).min(PORTION as u64);
+            let length = (run.length - inside).min(PORTION as u64) as usize;
+            let beneath = backing.get((at + inside) as usize..).unwrap_or_default();
             let bytes = match run.found {
-                Found::Host(host) => &image[(host + inside) as usize..][..length as usize],
-                _ => &zeros[..length as usize],
+                Found::Host(host) => &image[(host + inside) as usize..][..length],
+                Found::Absent if !beneath.is_empty() => &beneath[..length.min(beneath.len())],
+                _ => &zeros[..length],
             };
             part(bytes)?;
-            inside += length;
+            inside += bytes.len() as u64;
             progress.at(done + inside);
         }
         done += run.length;
@@ -106,19 +110,48 @@ mod tests {
     #[test]
     fn parts_of_runs() {
         let image: Vec<u8> = (0..3 * PORTION).map(|k| (k % 251) as u8).collect();
-        let run = |found, length| (0, Run { found, length });
-        let long = 2 * PORTION as u64 + 5;
-        let runs = [run(Found::Host(3), 4), run(Found::Zeros, long), run(Found::Host(7), long)];
-        let mut bytes = Vec::new();
-        each_part(&image, runs.into_iter(), 4 + 2 * long, &mut |part| {
+        let long = 2 * PORTION + 5;
+        let found = [Found::Host(3), Found::Zeros, Found::Host(7), Found::Absent];
+        let mut wanted = image[3..7].to_vec();
+        wanted.resize(4 + long, 0);
+        wanted.extend_from_slice(&image[7..7 + long]);
+        wanted.resize(4 + 3 * long, 0);
+        assert!(joined(&image, &[], found, [4, long, long, long]) == wanted);
+        assert_eq!([0, 0x0f, 0xa5].map(hex), [*b"00", *b"0f", *b"a5"]);
+    }
+
+    /// What is not allocated is the backing file's, and zeros past its end; what is
+    /// marked is zeros.
+    #[test]
+    fn parts_of_the_backing_file() {
+        let backing: Vec<u8> = (0..2 * PORTION + 9).map(|k| (k % 250) as u8 + 1).collect();
+        let (long, found) = (PORTION + 3, [Found::Absent, Found::Zeros, Found::Absent]);
+        for length in [0, 1, long, 2 * long, 2 * long + 1, backing.len()] {
+            let mut wanted = backing[..length].to_vec();
+            wanted.resize(3 * long, 0);
+            wanted[long..2 * long].fill(0);
+            assert!(joined(&[], &backing[..length], found, [long; 3]) == wanted, "{length}");
+        }
+    }
+
+    /// The bytes of these runs, one after the other from 0 on.
+    fn joined<const N: usize>(
+        image: &[u8],
+        backing: &[u8],
+        found: [Found; N],
+        lengths: [usize; N],
+    ) -> Vec<u8> {
+        let (mut at, mut bytes) = (0, Vec::new());
+        let runs = found.into_iter().zip(lengths).map(|(found, length)| {
+            let run = (at, Run { found, length: length as u64 });
+            at += length as u64;
+            run
+        });
+        each_part([image, backing], runs, lengths.iter().sum::<usize>() as u64, &mut |part| {
             bytes.extend_from_slice(part);
             Ok(())
         })
         .unwrap();
-        let mut wanted = image[3..7].to_vec();
-        wanted.resize(4 + long as usize, 0);
-        wanted.extend_from_slice(&image[7..7 + long as usize]);
-        assert!(bytes == wanted);
-        assert_eq!([0, 0x0f, 0xa5].map(hex), [*b"00", *b"0f", *b"a5"]);
+        bytes
     }
 }

@@ -6,7 +6,7 @@ use super::change;
 use super::check::check;
 use crate::autoclear;
 use crate::disk::Disk;
-use crate::image_file::{refused, ImageFile};
+use crate::image_file::ImageFile;
 use crate::progress::Progress;
 use crate::report::{self, Failure, Report, DONE, FAILED};
 use crate::sentences::Request;
@@ -19,8 +19,8 @@ pub fn run<D: Disk>(image: ImageFile<D>, allowance: u64, force: bool) -> Result<
         return Err(Failure::Other(autoclear::guard(bits)));
     }
     // Damage is left to the core, which has a number for it.
-    let path = image.path;
-    let mut ordered = change::ordered(image.file, image.bytes)?;
+    let ImageFile { path, file, bytes, backing, .. } = image;
+    let mut ordered = change::ordered(file, bytes, backing)?;
     let mut progress = Progress::new("repair", 0);
     let mut spent = 0;
     let outcome = ordered.repair(allowance, |done, total| {
@@ -32,7 +32,7 @@ pub fn run<D: Disk>(image: ImageFile<D>, allowance: u64, force: bool) -> Result<
         Ok(Outcome::Finished(units)) => (units, true),
         Ok(Outcome::Stopped(units)) => (units, false),
         Ok(Outcome::Refused(number)) => {
-            return Err(refused(&path, ordered.image(), number, Request::Look));
+            return Err(change::refused(&path, &ordered, number, Request::Look));
         }
         Err(fault) => return Err(change::broken_off(spent, fault)),
     };

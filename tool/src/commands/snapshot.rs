@@ -26,7 +26,7 @@ impl Kept {
     pub fn of(image: ImageFile, word: &OsStr, offset: u64, length: u64) -> Result<Kept, Failure> {
         let refuse = |number| image.refused(number, Request::Snapshot { word, offset, length });
         // The header is judged first: no snapshot has this number, which is 11.
-        match qcow2_core::read_snapshot(&image.bytes, u64::MAX, 0, &mut []) {
+        match qcow2_core::read_snapshot(&image.bytes, &image.backing.bytes, u64::MAX, 0, &mut []) {
             Ok(()) | Err(11) => {}
             Err(number) => return Err(refuse(number)),
         }
@@ -52,8 +52,9 @@ impl Kept {
         label: &'static str,
         part: &mut dyn FnMut(&[u8]) -> io::Result<()>,
     ) -> Result<(), Stopped> {
+        let (image, backing) = (&self.image.bytes, &self.image.backing.bytes);
         let read = |at, bytes: &mut [u8]| {
-            qcow2_core::read_snapshot(&self.image.bytes, self.snapshot, at, bytes)
+            qcow2_core::read_snapshot(image, backing, self.snapshot, at, bytes)
         };
         // A range that runs past the end is refused before any of it is read, and
         // so is one of no bytes there.

@@ -7,7 +7,8 @@ use crate::autoclear;
 use crate::call::writes;
 use crate::disk::Disk;
 use crate::fields::MAX_IMAGE;
-use crate::image_file::{refused, ImageFile};
+use crate::image_file::ImageFile;
+use crate::ordered::Ordered;
 use crate::report::{self, Failure, Report, DONE, FAILED};
 use crate::sentences::Request;
 
@@ -19,11 +20,11 @@ pub fn run<D: Disk>(
 ) -> Result<Report, Failure> {
     let (path, mut ordered) = change::open_usable(image)?;
     let (geometry, bits) = (ordered.geometry, autoclear::bits(ordered.image()));
-    let refuse = |image: &[u8], number, length, whole| {
-        refused(&path, image, number, Request::Write { offset, length, whole })
+    let refuse = |ordered: &Ordered<D>, number, length, whole| {
+        change::refused(&path, ordered, number, Request::Write { offset, length, whole })
     };
     let Some(room) = geometry.size.checked_sub(offset) else {
-        return Err(refuse(ordered.image(), 11, 0, true));
+        return Err(refuse(&ordered, 11, 0, true));
     };
     // More bytes than the image has can find no room; they are counted alone.
     let limit = room.min(MAX_IMAGE);
@@ -32,14 +33,14 @@ pub fn run<D: Disk>(
         .map_err(|error| Failure::Stream(format!("standard input: {error}")))?;
     if length > limit {
         let number = if limit == room { 11 } else { 14 };
-        return Err(refuse(ordered.image(), number, limit, false));
+        return Err(refuse(&ordered, number, limit, false));
     }
     if length > data.len() as u64 {
-        return Err(refuse(ordered.image(), 14, length, true));
+        return Err(refuse(&ordered, 14, length, true));
     }
     let calls = writes(offset, &data, geometry.cluster_bits);
     let total = change::trial(&mut ordered, calls.clone())?
-        .map_err(|(_, number)| refuse(ordered.image(), number, length, true))?;
+        .map_err(|(_, number)| refuse(&ordered, number, length, true))?;
     let (units, finished) = change::run(&mut ordered, "write", total, allowance, calls)?;
     let text = if finished {
         format!("wrote {} bytes at {offset}: {}\n", data.len(), report::units(units))

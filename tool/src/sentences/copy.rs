@@ -44,6 +44,9 @@ pub fn new_image(subject: &Subject, room: u64) -> Result<NewImage, String> {
     if let Some(reason) = qemu::refuses(subject, &fields) {
         return Err(reason);
     }
+    if fields.is_over_backing() && subject.backing.path.is_none() {
+        return Err(UNNAMED.into());
+    }
     let tables = tables(subject, &fields);
     let more = match tables {
         Tables::Good | Tables::Bad => "",
@@ -61,6 +64,12 @@ pub fn new_image(subject: &Subject, room: u64) -> Result<NewImage, String> {
     let text = joined(&joined(&text, more), needs(&fields));
     Ok(NewImage { before: before.unwrap_or_default(), text })
 }
+
+/// The commands name the backing file that is given: qemu is not to open what the
+/// image names, which could be any file.
+const UNNAMED: &str = "A new image is made by qemu, which would open the file that the image \
+                       names, whichever it is. Ask again with --backing FILE, and the commands \
+                       name that one.";
 
 const NOT_SEEN: &str = "The entries of its tables were not looked at: if they are damaged, the \
                         comparison does not show it.";
@@ -144,10 +153,13 @@ fn lacks(subject: &Subject, fields: &Fields, sectors: bool) -> String {
 
 /// Other files that qemu reads for it.
 fn needs(fields: &Fields) -> &'static str {
-    match (fields.backing != 0, fields.incompatible & 4 != 0) {
+    match (fields.is_over_backing(), fields.incompatible & 4 != 0) {
         (false, false) => "",
-        (true, false) => "qemu has to find the backing file for it.",
+        (true, false) => "It has the backing file's bytes in it, and no backing file.",
         (false, true) => "qemu has to find the data file for it.",
-        (true, true) => "qemu has to find the backing file and the data file for it.",
+        (true, true) => {
+            "It has the backing file's bytes in it, and no backing file. qemu has to find the data \
+             file for it."
+        }
     }
 }

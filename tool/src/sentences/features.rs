@@ -10,19 +10,14 @@ pub fn sentence(number: u32, subject: &Subject) -> (String, Remedy) {
         return ("the header is too short".into(), Remedy::NewImage(String::new()));
     };
     if number == 6 {
-        (not_supported(subject, &fields), remedy_not_supported(subject, &fields))
+        (not_supported(&fields), remedy_not_supported(subject, &fields))
     } else {
         (incompatible(fields.incompatible), remedy_incompatible(fields.incompatible))
     }
 }
 
-fn not_supported(subject: &Subject, fields: &Fields) -> String {
+fn not_supported(fields: &Fields) -> String {
     let mut causes = Vec::new();
-    if fields.backing != 0 {
-        let name = fields.backing_name(subject.bytes);
-        let name = name.map_or(String::new(), |name| format!(", {name:?}"));
-        causes.push(format!("the image has a backing file{name}"));
-    }
     match fields.crypt {
         0 => {}
         1 => causes.push("the disk is encrypted (AES)".into()),
@@ -48,21 +43,36 @@ fn not_supported(subject: &Subject, fields: &Fields) -> String {
 }
 
 fn remedy_not_supported(subject: &Subject, fields: &Fields) -> Remedy {
-    let length_alone = fields.backing == 0
-        && fields.crypt == 0
+    let length_alone = fields.crypt == 0
         && fields.snapshots <= MAX_SNAPSHOTS
         && fields.width().is_some()
         && fields.incompatible == 0
         && fields.autoclear == 0;
     if length_alone && can_be_set_back(subject, fields) {
-        let command = subject.commands().set_length_back();
-        return Remedy::InPlace(format!(
-            "Bytes 104 to 111 are zero, so the length can be set back without loss (byte 103 to \
-             104, letter h; letter p sets it again): {command}. The names of features are then no \
-             longer seen. {WITHOUT}"
-        ));
+        return Remedy::InPlace(set_back(subject, fields));
     }
     Remedy::NewImage(String::new())
+}
+
+/// Over a backing file its format has to be seen as before.
+fn set_back(subject: &Subject, fields: &Fields) -> String {
+    let (commands, before) = (
+        subject.commands(),
+        "Bytes 104 to 111 are zero, so the length can be set back without loss",
+    );
+    if fields.is_over_backing() {
+        let command = commands.set_length_back_seen();
+        return format!(
+            "{before} (byte 103 to 104, and an empty extension into the next eight, so that qemu \
+             still sees those behind it, among them the backing file's format): {command}. \
+             {WITHOUT}"
+        );
+    }
+    let command = commands.set_length_back();
+    format!(
+        "{before} (byte 103 to 104, letter h; letter p sets it again): {command}. The names of \
+         features are then no longer seen. {WITHOUT}"
+    )
 }
 
 /// Is what qemu 5.1 and later add unused, and would nothing be hidden that

@@ -1,11 +1,12 @@
 //! A refusal in words: what is wrong, told by the image's own fields, and what
 //! can be done about it without losing a byte.
 
+mod backing;
 mod blocks;
 pub mod commands;
 mod copy;
 mod features;
-mod format;
+pub mod format;
 mod header;
 mod held;
 mod qemu;
@@ -17,7 +18,9 @@ mod tail;
 use std::ffi::OsStr;
 use std::path::Path;
 
+use crate::backing::Backing;
 use crate::json::Json;
+use crate::report::Failure;
 use commands::Commands;
 
 pub use copy::NewImage;
@@ -29,6 +32,8 @@ pub struct Subject<'a> {
     pub length: u64,
     /// The whole image, or its first 512 bytes where it is too long.
     pub bytes: &'a [u8],
+    /// What lies under it, as the command line gives it.
+    pub backing: &'a Backing,
 }
 
 /// What was asked when the core refused.
@@ -91,7 +96,7 @@ impl Sentence {
     }
 }
 
-/// The refusal for a number from 1 to 18, 21 or 22.
+/// The refusal for a number from 1 to 22.
 pub fn refusal(number: u32, subject: &Subject, request: Request) -> Refusal {
     let Sentence { number, what, remedy, members } = sentence(number, subject, request);
     Refusal { number, what, advice: subject.advice(remedy), members }
@@ -108,6 +113,8 @@ pub fn sentence(number: u32, subject: &Subject, request: Request) -> Sentence {
         14 => room::sentence(subject, request),
         11 | 15..=17 => request::sentence(number, subject, request),
         18 => header::sectors(subject),
+        19 => backing::wrong(subject),
+        20 => backing::shows(subject, request),
         21 => table::sentence(subject),
         22 => return held::sentence(subject, request),
         _ => (
@@ -129,9 +136,21 @@ pub fn joined(first: &str, second: &str) -> String {
     format!("{first} {second}")
 }
 
-impl Subject<'_> {
+impl<'a> Subject<'a> {
+    /// An image that is at hand whole.
+    pub fn of(path: &'a Path, bytes: &'a [u8], backing: &'a Backing) -> Subject<'a> {
+        Subject { path, length: bytes.len() as u64, bytes, backing }
+    }
+
+    /// The failure for a number that the core gave.
+    pub fn refused(&self, number: u32, request: Request) -> Failure {
+        Failure::Refused(refusal(number, self, request))
+    }
+
+    /// Those that name the backing file, if qemu would look for one.
     fn commands(&self) -> Commands {
-        Commands::of(self.path)
+        let over = format::fields(self.bytes).is_some_and(|fields| fields.is_over_backing());
+        Commands::of(self.path, self.backing.path.as_deref().filter(|_| over))
     }
 
     pub fn advice(&self, remedy: Remedy) -> String {
@@ -152,15 +171,21 @@ impl Subject<'_> {
         copy::new_image(self, room)
     }
 
-    /// The advice, if the commands in it can name the file.
+    /// The advice, if the commands in it can name the files.
     pub fn printable(&self, advice: String) -> String {
         let plain = |name: &str| !name.chars().any(char::is_control);
-        if self.path.to_str().is_some_and(plain) || !advice.contains(commands::MARK) {
-            return advice;
-        }
-        "The file's name cannot be printed, so no command can name it: give it another name, or a \
-         hard link with one, and ask again under that."
-            .into()
+        let names = [Some(self.path), self.backing.path.as_deref()];
+        let plain = names.map(|path| path.is_none_or(|path| path.to_str().is_some_and(plain)));
+        let whose = match plain {
+            [true, true] => return advice,
+            _ if !advice.contains(commands::MARK) => return advice,
+            [false, _] => "file",
+            _ => "backing file",
+        };
+        format!(
+            "The {whose}'s name cannot be printed, so no command can name it: give it another name, \
+             or a hard link with one, and ask again under that."
+        )
     }
 }
 
@@ -181,16 +206,13 @@ mod tests {
         let long = vec![0xFF; 1024];
         let zeros = vec![0; 1024];
         for bytes in [&[][..], &long[..], &zeros[..], &long[..104]] {
-            let length = bytes.len() as u64;
-            let subject = Subject { path: Path::new("a"), length, bytes };
-            for number in 0..24 {
-                for request in requests {
+            for backing in [Backing::default(), Backing::named(Some(Path::new("b")))] {
+                let subject = Subject::of(Path::new("a"), bytes, &backing);
+                for (number, request) in (0..24).flat_map(|it| requests.map(|one| (it, one))) {
                     let refusal = refusal(number, &subject, request);
                     assert!(!refusal.what.is_empty() && !refusal.advice.is_empty());
-                    assert_eq!(
-                        refusal.what.contains("unknown number"),
-                        !matches!(number, 1..=18 | 21 | 22)
-                    );
+                    let known = (1..=22).contains(&number);
+                    assert_eq!(refusal.what.contains("unknown number"), !known);
                 }
             }
         }

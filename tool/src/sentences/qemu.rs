@@ -4,7 +4,7 @@
 use super::features::INCOMPATIBLE_BITS;
 use super::header::LOOK_FOR_ANOTHER;
 use super::Subject;
-use crate::fields::{Fields, HEADER_LENGTH};
+use crate::fields::{Fields, HEADER_LENGTH, NAME};
 use crate::snapshots::{Table, MOST};
 
 /// Why qemu makes no copy, told by the header.
@@ -29,6 +29,8 @@ pub fn refuses(subject: &Subject, fields: &Fields) -> Option<String> {
         "such a header_length"
     } else if !compression_fits(subject.bytes, fields) {
         "such a compression type"
+    } else if !name_fits(fields) {
+        "such a name of a backing file"
     } else if !tables_fit(fields) {
         "such tables"
     } else if !snapshots_fit(subject.bytes, fields) {
@@ -40,6 +42,16 @@ pub fn refuses(subject: &Subject, fields: &Fields) -> Option<String> {
         "No qcow2 image has {part}, and qemu refuses it too: the header is damaged. \
          {LOOK_FOR_ANOTHER}"
     ))
+}
+
+/// Does the name of the backing file lie inside the first cluster, and is it not too
+/// long?
+fn name_fits(fields: &Fields) -> bool {
+    let Some(room) = fields.cluster().and_then(|cluster| cluster.checked_sub(fields.backing))
+    else {
+        return false;
+    };
+    fields.backing == 0 || u64::from(fields.backing_length) <= room.min((*NAME.end()).into())
 }
 
 /// Do the tables stand at clusters, and does the L1 table reach the disk's end?

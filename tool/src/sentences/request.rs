@@ -34,7 +34,7 @@ fn too_short() -> (String, Remedy) {
 }
 
 /// Which guest bytes were asked for.
-fn place(layout: &Layout, request: Request) -> String {
+pub fn place(layout: &Layout, request: Request) -> String {
     match request {
         Request::Look => "the disk".into(),
         Request::Read { offset, length } | Request::Write { offset, length, whole: true } => {
@@ -173,7 +173,7 @@ pub fn compressed(entries: u64) -> Sentence {
 /// Number 17: the check says what is damaged.
 fn damaged(layout: &Layout, subject: &Subject) -> (String, Remedy) {
     let mut scratch = vec![0; layout.scratch()];
-    let found = qcow2_core::check(subject.bytes, &mut scratch);
+    let found = qcow2_core::check(subject.bytes, &subject.backing.bytes, &mut scratch);
     let words = verdict(layout, subject.bytes, found, &scratch).0;
     let remedy = Damage::of(layout, subject.bytes, found, &scratch).remedy();
     (format!("only leaks are repaired, and the image is {words}"), remedy)

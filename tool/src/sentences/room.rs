@@ -4,6 +4,7 @@ use std::ops::RangeInclusive;
 
 use super::commands::NEW_CLUSTER;
 use super::{held, Remedy, Request, Subject};
+use crate::extents::is_zero;
 use crate::fields::{be64, MAX_IMAGE, PLACE};
 use crate::layout::Layout;
 
@@ -34,7 +35,7 @@ pub fn sentence(subject: &Subject, request: Request) -> (String, Remedy) {
     // Room is not enough where a snapshot holds what is to be changed.
     if held::first(&layout, subject.bytes, guests.clone()).is_some() {
         let what = format!("{what}; clusters on its way are held by a snapshot (22)");
-        return (what, elsewhere(&layout, subject.bytes, guests, held::deleted()));
+        return (what, elsewhere(&layout, subject, guests, held::deleted()));
     }
     let missing = (data + tables).saturating_sub(free);
     let remedy = match appended(&layout, subject.bytes, missing) {
@@ -43,7 +44,7 @@ pub fn sentence(subject: &Subject, request: Request) -> (String, Remedy) {
              room: {}.",
             subject.commands().append(clusters * cluster as u64)
         )),
-        None => past_the_counts(&layout, subject.bytes, guests),
+        None => past_the_counts(&layout, subject, guests),
     };
     (what, remedy)
 }
@@ -101,7 +102,7 @@ fn appended(layout: &Layout, image: &[u8], missing: u64) -> Option<u64> {
 }
 
 /// Where the file cannot be lengthened enough.
-fn past_the_counts(layout: &Layout, image: &[u8], guests: RangeInclusive<u64>) -> Remedy {
+fn past_the_counts(layout: &Layout, subject: &Subject, guests: RangeInclusive<u64>) -> Remedy {
     let covered = layout.covered() as u64;
     if covered << layout.bits >= MAX_IMAGE {
         return Remedy::Other(too_much());
@@ -109,18 +110,34 @@ fn past_the_counts(layout: &Layout, image: &[u8], guests: RangeInclusive<u64>) -
     let ends = format!(
         "The stored counts end at cluster {covered}, so this file cannot be lengthened enough."
     );
-    elsewhere(layout, image, guests, ends)
+    elsewhere(layout, subject, guests, ends)
 }
 
 /// A new image with room for the write, if it is not too long then.
-fn elsewhere(layout: &Layout, image: &[u8], guests: RangeInclusive<u64>, reason: String) -> Remedy {
+fn elsewhere(
+    layout: &Layout,
+    subject: &Subject,
+    guests: RangeInclusive<u64>,
+    reason: String,
+) -> Remedy {
     let bytes = guests.start() << layout.bits..=((guests.end() + 1) << layout.bits) - 1;
     let larger = *bytes.start() / NEW_CLUSTER..=*bytes.end() / NEW_CLUSTER;
     let room = with_tables(larger.end() - larger.start() + 1) * NEW_CLUSTER;
-    if new_length(layout, image) + room > MAX_IMAGE {
+    let beneath = beneath(layout, &subject.backing.bytes);
+    if new_length(layout, subject.bytes) + beneath + room > MAX_IMAGE {
         return Remedy::Other(format!("{reason} {}", too_much()));
     }
     Remedy::Roomy(room, format!("{reason} The new one is given room for the write."))
+}
+
+/// At most so many bytes more for those of the backing file, which it has too.
+fn beneath(layout: &Layout, backing: &[u8]) -> u64 {
+    let shown = backing.len().min(layout.size as usize);
+    let parts = backing[..shown].chunks(NEW_CLUSTER as usize);
+    match parts.filter(|part| !is_zero(part)).count() as u64 {
+        0 => 0,
+        filled => (filled + (shown as u64).div_ceil(NEW_CLUSTER * NEW_CLUSTER / 8)) * NEW_CLUSTER,
+    }
 }
 
 /// Clusters of the larger size, and at most so many L2 tables.

@@ -4,6 +4,7 @@ use std::collections::BTreeMap;
 use std::io;
 use std::path::Path;
 
+use qstore::backing::Backing;
 use qstore::commands::change::open_usable;
 use qstore::disk::Disk;
 use qstore::image_file::{Access, ImageFile};
@@ -79,12 +80,28 @@ impl Disk for Drive {
 
 /// The image on a drive, as a command that changes it opens it.
 pub fn open<D: Disk>(drive: D) -> Result<ImageFile<D>, Failure> {
-    ImageFile::read(Path::new("drive"), drive, Access::Change, false)
+    ImageFile::read(Path::new("drive"), drive, Access::Change, false, None)
 }
 
 /// The same for a write or discard.
 pub fn usable<D: Disk>(drive: D) -> Ordered<D> {
-    open(drive).and_then(open_usable).ok().expect("a usable image").1
+    usable_over(drive, &[])
+}
+
+/// The same over these bytes of a backing file.
+pub fn usable_over<D: Disk>(drive: D, backing: &[u8]) -> Ordered<D> {
+    open_over(drive, backing).and_then(open_usable).ok().expect("a usable image").1
+}
+
+pub fn open_over<D: Disk>(drive: D, backing: &[u8]) -> Result<ImageFile<D>, Failure> {
+    let mut image = open(drive)?;
+    image.backing.bytes = backing.to_vec();
+    Ok(image)
+}
+
+/// Without a look at what the image is.
+pub fn accepted<D: Disk>(drive: D, image: Vec<u8>) -> Ordered<D> {
+    Ordered::new(drive, image, Backing::default()).expect("an accepted image")
 }
 
 pub struct Random(pub u64);

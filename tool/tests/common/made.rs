@@ -53,6 +53,26 @@ pub fn made_at(order: u32, version: u8, bits: u32, clusters: usize, size: u64) -
     Made { image, cluster, table_at: cluster, block_at, l1_at }
 }
 
+/// Puts an image of version 3 over a backing file of this name. The extensions
+/// begin where the header ends, with the file's format, if that is to be said; the
+/// name stands behind them.
+pub fn over(image: &mut [u8], name: &[u8], format: Option<&[u8]>) {
+    let mut extensions = Vec::new();
+    if let Some(format) = format {
+        extensions.extend(0xE279_2ACAu32.to_be_bytes());
+        extensions.extend((format.len() as u32).to_be_bytes());
+        extensions.extend(format);
+        extensions.resize(extensions.len().next_multiple_of(8), 0);
+    }
+    extensions.extend([0; 8]);
+    let at = usize::from(image[103]);
+    let stop = at + extensions.len();
+    image[at..stop].copy_from_slice(&extensions);
+    put64(image, 8, stop as u64);
+    image[16..20].copy_from_slice(&(name.len() as u32).to_be_bytes());
+    image[stop..stop + name.len()].copy_from_slice(name);
+}
+
 /// Puts a count of 2^order bits, bit by bit.
 pub fn put_count(counts: &mut [u8], order: u32, index: usize, count: u64) {
     let width = 1 << order;

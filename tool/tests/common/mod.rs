@@ -3,13 +3,16 @@
 
 pub mod drive;
 pub mod kept;
+pub mod kinds;
 pub mod made;
 pub mod promise;
+pub mod series;
 
 use std::fs;
 use std::io::Write;
 use std::path::{Path, PathBuf};
-use std::process::{Command, Stdio};
+use std::process::{Command, Output, Stdio};
+use std::time::{Duration, Instant};
 
 pub fn images() -> PathBuf {
     Path::new(env!("CARGO_MANIFEST_DIR")).join("../images")
@@ -50,6 +53,41 @@ impl Copy {
     }
 }
 
+/// An image and the backing file that is given for it.
+pub struct Pair {
+    pub image: Copy,
+    pub backing: Copy,
+}
+
+impl Pair {
+    pub fn of(image: &str, test: &str) -> Pair {
+        Pair::with(&fs::read(images().join(image)).expect(image), &beneath(image), test)
+    }
+
+    pub fn with(image: &[u8], backing: &[u8], test: &str) -> Pair {
+        let backing = Copy::with(backing, &format!("{test}-beneath"));
+        Pair { image: Copy::with(image, test), backing }
+    }
+
+    pub fn run(&self, line: &str) -> Answer {
+        self.feed(line, &[])
+    }
+
+    /// Runs a command with the backing file given, which must be left alone.
+    pub fn feed(&self, line: &str, input: &[u8]) -> Answer {
+        let before = (self.backing.bytes(), changed(&self.backing.path));
+        let backing = self.backing.path.to_str().expect("a name in UTF-8");
+        let answer = self.image.feed(&format!("{line} --backing {backing}"), input);
+        assert!((self.backing.bytes(), changed(&self.backing.path)) == before, "{line}");
+        answer
+    }
+}
+
+/// When a file was changed last.
+fn changed(path: &Path) -> std::time::SystemTime {
+    path.metadata().and_then(|metadata| metadata.modified()).expect("a file")
+}
+
 impl Drop for Copy {
     fn drop(&mut self) {
         _ = fs::remove_file(&self.path);
@@ -78,6 +116,22 @@ pub fn qstore(args: &[&str], input: &[u8]) -> Answer {
     }
 }
 
+/// What a command comes to that has to end by itself, with nothing to read.
+pub fn ended(command: &mut Command) -> Output {
+    command.stdin(Stdio::null()).stdout(Stdio::piped()).stderr(Stdio::piped());
+    let mut child = command.spawn().expect("qstore");
+    let due = Instant::now() + Duration::from_secs(20);
+    while child.try_wait().unwrap().is_none() {
+        if Instant::now() > due {
+            _ = child.kill();
+            _ = child.wait();
+            panic!("it waits");
+        }
+        std::thread::sleep(Duration::from_millis(5));
+    }
+    child.wait_with_output().unwrap()
+}
+
 pub struct Row {
     pub file: String,
     pub report: String,
@@ -97,9 +151,17 @@ pub fn manifest() -> Vec<Row> {
 
 /// The guest bytes of an image as qemu reads them.
 pub fn guest(file: &str) -> Vec<u8> {
-    let path = images().join(file).with_extension("guest");
+    of_runs(&images().join(file).with_extension("guest"))
+}
+
+/// The bytes of its backing file.
+pub fn beneath(file: &str) -> Vec<u8> {
+    of_runs(&images().join(file).with_extension("backing"))
+}
+
+fn of_runs(path: &Path) -> Vec<u8> {
     let mut bytes = Vec::new();
-    for line in fs::read_to_string(path).expect("guest bytes").lines() {
+    for line in fs::read_to_string(path).expect("runs of bytes").lines() {
         let (length, byte) = line.split_once(' ').expect("length and byte");
         let length: usize = length.parse().expect("length");
         let byte = u8::from_str_radix(byte, 16).expect("byte");

@@ -7,22 +7,36 @@ use qstore::call::Call;
 use qstore::layout::Layout;
 
 pub fn verdict(image: &[u8]) -> Verdict {
-    check(image, &mut vec![0; image.len() / 256])
+    verdict_over(image, &[])
+}
+
+/// Over these bytes of a backing file, here and below.
+pub fn verdict_over(image: &[u8], backing: &[u8]) -> Verdict {
+    check(image, backing, &mut vec![0; image.len() / 256])
 }
 
 /// The bytes of the disk.
 pub fn guest(image: &[u8]) -> Vec<u8> {
+    guest_over(image, &[])
+}
+
+pub fn guest_over(image: &[u8], backing: &[u8]) -> Vec<u8> {
     let mut bytes = vec![0; Layout::of(image).unwrap().size as usize];
-    read(image, 0, &mut bytes).expect("an accepted read");
+    read(image, backing, 0, &mut bytes).expect("an accepted read");
     bytes
 }
 
 /// The bytes of every snapshot.
 pub fn kept(image: &[u8]) -> Vec<Vec<u8>> {
+    kept_over(image, &[])
+}
+
+pub fn kept_over(image: &[u8], backing: &[u8]) -> Vec<Vec<u8>> {
     let trees = Layout::of(image).unwrap().with_snapshots(image);
     let read = |tree: &Layout| {
         let mut bytes = vec![0; tree.size as usize];
-        read_snapshot(image, tree.snapshot.unwrap(), 0, &mut bytes).expect("an accepted read");
+        read_snapshot(image, backing, tree.snapshot.unwrap(), 0, &mut bytes)
+            .expect("an accepted read");
         bytes
     };
     trees[1..].iter().map(read).collect()
@@ -31,6 +45,7 @@ pub fn kept(image: &[u8]) -> Vec<Vec<u8>> {
 /// Of one call on one image.
 pub struct Promise {
     image: Vec<u8>,
+    backing: Vec<u8>,
     old: Vec<u8>,
     new: Vec<u8>,
     /// The guest bytes that may change, and whether all do or none.
@@ -42,9 +57,13 @@ pub struct Promise {
 impl Promise {
     /// For a call, which is made here in memory.
     pub fn of(image: &[u8], call: &Call) -> Promise {
+        Promise::over(image, &[], call)
+    }
+
+    pub fn over(image: &[u8], backing: &[u8], call: &Call) -> Promise {
         let layout = Layout::of(image).unwrap();
         let mut after = image.to_vec();
-        let outcome = call.run(&mut after, u64::MAX);
+        let outcome = call.run(&mut after, backing, u64::MAX);
         let Outcome::Finished(units) = outcome else { panic!("{outcome:?}") };
         let clears = u64::from(image[88..96] != after[88..96]);
         let (request, whole) = match *call {
@@ -57,22 +76,24 @@ impl Promise {
                 (start..(start + layout.cluster()).min(layout.size as usize), true)
             }
         };
-        Promise { request, whole, new: guest(&after), ..Promise::of_repair(image) }
+        let new = guest_over(&after, backing);
+        Promise { request, whole, new, ..Promise::of_repair(image, backing) }
     }
 
     /// For a repair: no guest byte may change.
-    pub fn of_repair(image: &[u8]) -> Promise {
-        let (old, snapshots) = (guest(image), kept(image));
-        let new = old.clone();
-        Promise { image: image.to_vec(), old, new, request: 0..0, whole: true, snapshots }
+    pub fn of_repair(image: &[u8], backing: &[u8]) -> Promise {
+        let (old, snapshots) = (guest_over(image, backing), kept_over(image, backing));
+        let (image, backing, new) = (image.to_vec(), backing.to_vec(), old.clone());
+        Promise { image, backing, old, new, request: 0..0, whole: true, snapshots }
     }
 
     /// In what an image breaks it.
     pub fn fault(&self, image: &[u8]) -> Option<String> {
-        if !verdict(image).is_usable() {
-            return Some(format!("{:?}", verdict(image)));
+        let verdict = verdict_over(image, &self.backing);
+        if !verdict.is_usable() {
+            return Some(format!("{verdict:?}"));
         }
-        if kept(image) != self.snapshots {
+        if kept_over(image, &self.backing) != self.snapshots {
             return Some("a byte of a snapshot".into());
         }
         // Nothing is stored while autoclear bits stand; version 2 has none.
@@ -80,7 +101,7 @@ impl Promise {
         if bits && image != self.image {
             return Some("the autoclear bits stand".into());
         }
-        self.guest_fault(&guest(image))
+        self.guest_fault(&guest_over(image, &self.backing))
     }
 
     fn guest_fault(&self, seen: &[u8]) -> Option<String> {

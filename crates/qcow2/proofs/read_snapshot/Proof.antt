@@ -4,30 +4,40 @@ use lib.ListN.{length}
 use denote.Ref.{now}
 use borrow.Author.Needs.{needs}
 use Rattle.qcow2_spec.specs.declared.Judged.the-variants.{Refused, Accepted}
+use Rattle.qcow2_spec.specs.Header.{someLent}
 use Rattle.qcow2_spec.specs.Opened.{opened}
-use Rattle.qcow2_spec.proofs.Open.{accepted-is}
 use Rattle.qcow2.proofs.Refusals.{number-refused, into-refused}
+use Rattle.qcow2.proofs.Taken.{active, number-taken, into-taken}
 use Rattle.qcow2.proofs.read_snapshot.Statement.{statement}
 use Rattle.qcow2.proofs.read_snapshot.Tie as tie
 
 read-snapshot-requires : tie.Need-read-snapshot-requires
 read-snapshot-requires c κs =
-    let s = now (c .before .before .before .before .before .before .before .args .image) in
+    let a = c .before .before .before .before .before .before .before .before .args in
+    let s = now (a .image) in
+    let b = now (a .backing) in
     let g = c .before .before .j2 .given .0 .0 in
-    let e : opened s ≡ Accepted g = sym (c .before .before .before .before .judge .ensures) ∙ c .before .before .j2 .given .1 in
-    accepted-is s g e
+    let e : opened (someLent b) s ≡ Accepted g = sym (c .before .before .before .before .judge-over .ensures) ∙ c .before .before .j2 .given .1 in
+    active b s g e
 
 returns : tie.Need-returns
 returns c =
-    let a = c .before .before .before .before .before .before .args in
+    let a = c .before .before .before .before .before .before .before .args in
     let s = now (a .image) in
-    let o = now (a .out) in
+    let b = now (a .backing) in
     let k = c .before .j .given .0 .0 in
-    let e : opened s ≡ Refused k = sym (c .before .before .before .judge .ensures) ∙ c .before .j .given .1 in
-    (sym (number-refused s k e (suc (a .snapshot)) (a .x) (length o)), sym (into-refused s k e (suc (a .snapshot)) (a .x) o))
+    let e : opened (someLent b) s ≡ Refused k = sym (c .before .before .before .judge-over .ensures) ∙ c .before .j .given .1 in
+    (sym (number-refused b s k e (suc (a .snapshot)) (a .x) (length (now (a .out)))), sym (into-refused b s k e (suc (a .snapshot)) (a .x) (now (a .out))))
 
 returns-2 : tie.Need-returns-2
-returns-2 c = c .before .before .read-snapshot .ensures
+returns-2 c =
+    let a = c .before .before .before .before .before .before .before .before .before .before .before .args in
+    let s = now (a .image) in
+    let b = now (a .backing) in
+    let g = c .before .before .before .before .before .j2 .given .0 .0 in
+    let e : opened (someLent b) s ≡ Accepted g = sym (c .before .before .before .before .before .before .before .judge-over .ensures) ∙ c .before .before .before .before .before .j2 .given .1 in
+    let r = c .before .before .read-snapshot .ensures in
+    (r .0 ∙ number-taken b s g e (suc (a .snapshot)) (a .x) (length (now (a .out))), r .1 ∙ into-taken b s g e (suc (a .snapshot)) (a .x) (now (a .out)))
 
 pub read-snapshot-spec : {M : Type 1} → statement M
 read-snapshot-spec = tie.close (tie.spec (search needs) (search needs) (search needs) read-snapshot-requires returns (search needs) returns-2)

@@ -9,7 +9,7 @@ use Rattle.qcow2_discard.proofs.put_cleared.Tie as tie
 returns : tie.Need-returns
 returns c =
     let a = c .before .before .before .before .before .before .args in
-    stored (entry (a .at) 0 ∷ []) _ _ _ _ 1 refl (c .end-of .ensures) (c .before .before .before .store-entry .ensures .1)
+    stored (entry (a .at) (a .value) ∷ []) _ _ _ _ 1 refl (c .end-of .ensures) (c .before .before .before .store-entry .ensures .1)
 
 pub put-cleared-spec : {M : Type 1} → statement M
 put-cleared-spec =

@@ -1,6 +1,6 @@
 use borrow.Author.Needs.{needs}
 use native.Mathlib.Omega.{arith}
-use Rattle.qcow2_spec.specs.Header.{version, clusters, clusterSize, diskSize, l1Size, l1At, tableAt, tableClusters, width, blocks, perBlock, snapshots, snapshotsAt, rootSize, rootAt}
+use Rattle.qcow2_spec.specs.Header.{version, clusters, clusterSize, diskSize, l1Size, l1At, tableAt, tableClusters, width, blocks, perBlock, snapshots, snapshotsAt, rootSize, rootAt, backed, backingOffset}
 use Rattle.qcow2_spec.specs.Guest.{reach}
 use Rattle.qcow2_spec.specs.Opened.{geometry}
 use Rattle.qcow2_fields.proofs.gather.Statement.{statement}
@@ -12,16 +12,17 @@ block-count-requires c κs =
     ((omega (arith, p .narrow, p .sized .known .low), omega (arith, p .sized .known .high)), p .sized .short)
 
 returns : tie.Need-returns
-unfolding geometry reach rootSize rootAt version clusters clusterSize diskSize l1Size l1At tableAt tableClusters width blocks perBlock snapshots snapshotsAt
+unfolding geometry reach rootSize rootAt version clusters clusterSize diskSize l1Size l1At tableAt tableClusters width blocks perBlock snapshots snapshotsAt backed backingOffset
 returns c =
-    let p = c .before .before .before .before .before .before .before .before .before .before .before .before .before .pre .sized .known in
+    let p = c .before .before .before .before .before .before .before .before .before .before .before .before .before .before .pre .sized in
     record {
       is =
-          rw (c .load644 .ensures, c .before .load325 .ensures, c .before .before .block-count .ensures, c .before .before .before .before .before .before .before .before .quotient .ensures .0, c .before .before .before .load324 .ensures, c .before .before .before .before .load643 .ensures, c .before .before .before .before .before .load642 .ensures, c .before .before .before .before .before .before .load323 .ensures, c .before .before .before .before .before .before .before .load64 .ensures, c .before .before .before .before .before .before .before .before .before .load322 .ensures, c .before .before .before .before .before .before .before .before .before .before .order-of .ensures, c .before .before .before .before .before .before .before .before .before .before .before .load32 .ensures);
+          rw (c .load645 .ensures, c .before .load644 .ensures, c .before .before .load325 .ensures, c .before .before .before .block-count .ensures, c .before .before .before .before .before .before .before .before .before .quotient .ensures .0, c .before .before .before .before .load324 .ensures, c .before .before .before .before .before .load643 .ensures, c .before .before .before .before .before .before .load642 .ensures, c .before .before .before .before .before .before .before .load323 .ensures, c .before .before .before .before .before .before .before .before .load64 .ensures, c .before .before .before .before .before .before .before .before .before .before .load322 .ensures, c .before .before .before .before .before .before .before .before .before .before .before .order-of .ensures, c .before .before .before .before .before .before .before .before .before .before .before .before .load32 .ensures);
       low = omega arith;
       high = omega arith;
-      short = c .before .before .before .before .before .before .before .before .before .before .before .before .before .pre .sized .short;
-      room = rw (c .before .before .before .before .before .before .before .before .before .before .before .load32 .ensures) (c .before .before .before .before .before .before .before .before .before .before .before .before .before .pre .sized .room);
+      long = p .known .long;
+      short = p .short;
+      room = rw (c .before .before .before .before .before .before .before .before .before .before .before .before .load32 .ensures) (p .room);
       few = omega arith;
       brief = omega arith;
     }
@@ -31,4 +32,4 @@ gather-spec =
     tie.close
     (tie.spec
     (search needs) (search needs) (search needs) (search needs) (search needs) (search needs) (search needs) (search needs)
-    (search needs) (search needs) (search needs) block-count-requires (search needs) (search needs) (search needs) returns)
+    (search needs) (search needs) (search needs) block-count-requires (search needs) (search needs) (search needs) (search needs) returns)

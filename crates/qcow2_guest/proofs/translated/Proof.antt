@@ -2,17 +2,17 @@ use native.Mathlib.Omega.{arith}
 use denote.Ref.{now}
 use borrow.Author.Tests.{le-leb, lt-leb}
 use Rattle.qcow2_spec.specs.Header.{diskSize}
-use Rattle.qcow2_spec.specs.Guest.{translate}
+use Rattle.qcow2_spec.specs.Guest.{translated}
 use Rattle.qcow2_guest.proofs.Ready.{active-size}
 use Rattle.qcow2_guest.proofs.translated.Statement.{statement}
 use Rattle.qcow2_guest.proofs.translated.Tie as tie
 
 returns : tie.Need-returns
-unfolding translate
+unfolding translated
 returns c =
     let b = c .before .before .before in
     let s = now (b .args .image) in
-    rw (b .pre .0 .accepted, le-leb (diskSize s) (b .args .x) (omega (arith, active-size (b .args .g) s (b .pre))))
+    rw (le-leb (diskSize s) (b .args .x) (omega (arith, active-size (b .args .g) s (b .pre))))
 
 locate-requires : tie.Need-locate-requires
 locate-requires c κs =
@@ -20,11 +20,11 @@ locate-requires c κs =
     (b .pre .0, omega (arith, b .pre .0 .is-size))
 
 returns-2 : tie.Need-returns-2
-unfolding translate
+unfolding translated
 returns-2 c =
     let b = c .before .before .before .before in
     let s = now (b .args .image) in
-    rw (b .pre .0 .accepted, lt-leb (diskSize s) (b .args .x) (omega (arith, active-size (b .args .g) s (b .pre))), ← b .pre .1) (c .locate .ensures)
+    rw (lt-leb (diskSize s) (b .args .x) (omega (arith, active-size (b .args .g) s (b .pre))), ← b .pre .1) (c .locate .ensures)
 
 pub translated-spec : {M : Type 1} → statement M
 translated-spec = tie.close (tie.spec returns locate-requires returns-2)

@@ -13,9 +13,7 @@ returns c =
     rw (← tables-is _ _ (c .before .before .before .pre .is), ← c .before .misplaced-tables .ensures, c .if1 .taken)
 
 judge-entries-requires : tie.Need-judge-entries-requires
-judge-entries-requires c κs =
-    let p = placed (c .before .before .before .args .g) (length (now (c .before .before .before .args .image))) (sym (c .before .misplaced-tables .ensures) ∙ c .if1 .left) in
-    record { read = c .before .before .before .pre; fits = p .0; enough = p .1 }
+judge-entries-requires c κs = placed _ _ (c .before .before .before .pre) (sym (c .before .misplaced-tables .ensures) ∙ c .if1 .left)
 
 returns-2 : tie.Need-returns-2
 unfolding from9

@@ -13,11 +13,11 @@ use Rattle.qcow2_read.proofs.next_piece.Statement.{statement}
 use Rattle.qcow2_read.proofs.next_piece.Tie as tie
 
 add-y : tie.Need-add-y
-add-y c = let b = c .before .before .before in omega (arith, b .pre .0 .far, b .pre .1 .0)
+add-y c = let b = c .before .before .before .before in omega (arith, b .pre .0 .far, b .pre .1 .0)
 
 read-piece-requires : tie.Need-read-piece-requires
 read-piece-requires c κs =
-    let b = c .before .before .before .before .before in
+    let b = c .before .before .before .before .before .before in
     let a = b .args in
     let o = now (a .out) in
     let m = c .before .piece .result in
@@ -28,13 +28,13 @@ read-piece-requires c κs =
 returns : tie.Need-returns
 returns c =
     let q = c .before .before .before .before in
-    let b = q .before .before .before .before in
+    let b = q .before .before .before .before .before in
     let a = b .args in
     let o = now (a .out) in
     let m = q .piece .result in
     let d : a .done + m - a .done ≡ m = omega arith in
     let n : length (take m (drop (a .done) o)) ≡ m = length-take-le m (drop (a .done) o) (simp length-drop (omega arith)) in
-    let w : c .before .before .read-piece .last .1 .1 .1 .1 .0 ≡ guestBytes (now (a .image)) (a .g .root) (a .x + a .done) m = rw (d, n) at (c .before .before .read-piece .ensures) in
+    let w : c .before .before .read-piece .last .1 .1 .1 .1 .1 .0 ≡ guestBytes (now (a .backing)) (now (a .image)) (a .g .root) (a .x + a .done) m = rw (d, n) at (c .before .before .read-piece .ensures) in
     ((omega (arith, mod-lt (a .x + a .done) (pow-pos (a .g .bits))), omega arith), rw (d, w, drop-drop))
 
 pub next-piece-spec : {M : Type 1} → statement M

@@ -2,7 +2,7 @@ use native.Mathlib.Omega.{arith}
 use Prim.Native.Nat.{_+_, _-_}
 use mathlib.Core.Path.{_≡_, sym, ap, _∙_}
 use denote.Ref.{now}
-use Rattle.qcow2_spec.specs.Guest.{foundPart, inPlace}
+use Rattle.qcow2_spec.specs.Guest.{foundPart}
 use Rattle.qcow2_guest.proofs.Pieces.{host-found, host-part, other-part}
 use borrow.Author.Needs.{needs}
 use Rattle.qcow2_read.proofs.part_in.Statement.{statement}
@@ -42,7 +42,6 @@ returns c =
     rw d (host-part (a .g) (now (a .image)) (b .pre .0) (a .x) (b .pre .1) h m (sym (c .before .before .before .before .before .before .translated .ensures) ∙ c .before .before .before .before .f .given .1) (c .before .piece .ensures))
 
 returns-2 : tie.Need-returns-2
-unfolding inPlace
 returns-2 c =
     let a = c .before .before .before .before .args in
     let s = now (a .image) in

@@ -13,7 +13,7 @@ use Rattle.qcow2_read.proofs.read_next.Tie as tie
 
 read-row-requires : tie.Need-read-row-requires
 read-row-requires c κs =
-    let b = c .before .before .before .before in
+    let b = c .before .before .before .before .before in
     let a = b .args in
     let o = now (a .out) in
     let m = c .before .row-left .result in
@@ -25,13 +25,13 @@ read-row-requires c κs =
 returns : tie.Need-returns
 returns c =
     let q = c .before .before .before .before in
-    let b = q .before .before .before in
+    let b = q .before .before .before .before in
     let a = b .args in
     let o = now (a .out) in
     let m = q .row-left .result in
     let d : a .done + m - a .done ≡ m = omega arith in
     let n : length (take m (drop (a .done) o)) ≡ m = length-take-le m (drop (a .done) o) (simp length-drop (omega arith)) in
-    let w : c .before .before .read-row .last .1 .1 .1 .0 ≡ guestBytes (now (a .image)) (a .g .root) (a .x + a .done) m = rw (d, n) at (c .before .before .read-row .ensures) in
+    let w : c .before .before .read-row .last .1 .1 .1 .1 .0 ≡ guestBytes (now (a .backing)) (now (a .image)) (a .g .root) (a .x + a .done) m = rw (d, n) at (c .before .before .read-row .ensures) in
     let p = row-left-some (2 ^ a .g .bits) (2 ^ (a .g .bits - 3)) (a .x + a .done) (pow-pos (a .g .bits)) (pow-pos (a .g .bits - 3)) in
     ((omega (arith, q .row-left .ensures, p, b .pre .1 .1), omega arith), rw (d, w, drop-drop))
 

@@ -14,18 +14,18 @@ past-write-requires : tie.Need-past-write-requires
 past-write-requires c κs = c .before .before .pre .0 .high
 
 returns : tie.Need-returns
-returns c d e =
+returns c u d e =
     let b = c .before .before .before .before in
     let a = b .args in
     let s = now (a .image) in
-    list-refused s _ (now (a .rows)) 11 (write-past (a .g) s (b .pre) (a .x) (a .len) d e (sym (c .before .past-write .ensures) ∙ c .if1 .taken))
+    list-refused s _ (now (a .rows)) 11 (write-past (a .g) s (b .pre) (a .x) (a .len) u d e (sym (c .before .past-write .ensures) ∙ c .if1 .taken))
 
 returns-2 : tie.Need-returns-2
-returns-2 c d e =
+returns-2 c u d e =
     let b = c .before .before .before .before .before in
     let a = b .args in
     let s = now (a .image) in
-    list-none s _ (now (a .rows)) (write-none (a .g) s (b .pre) (a .x) (a .len) d e (sym (c .before .before .past-write .ensures) ∙ c .before .if1 .left) (c .if2 .taken))
+    list-none s _ (now (a .rows)) (write-none (a .g) s (b .pre) (a .x) (a .len) u d e (sym (c .before .before .past-write .ensures) ∙ c .before .if1 .left) (c .if2 .taken))
 
 quotient-requires : tie.Need-quotient-requires
 quotient-requires c κs = omega (arith, c .before .before .before .before .before .pre .0 .high)
@@ -50,11 +50,11 @@ write-way-requires c κs =
     ((b .pre, found-ready (a .g) s y _ (c .before .before .own-way .ensures) (b .pre) h), (rw (c .before .rest .ensures .0) (fits (a .g) s (b .pre) (a .x) (a .len) q), omega (arith, c .before .before .before .before .if2 .left)))
 
 returns-3 : tie.Need-returns-3
-returns-3 c d e =
+returns-3 c u d e =
     let b = c .before .before .before .before .before .before .before .before .before .before .before .before in
     let a = b .args in
-    rw (write-some (a .g) (now (a .image)) (b .pre) (a .x) (a .len) d e (c .before .before .before .before .before .before .quotient .result) (c .before .before .before .before .rest .result) (c .before .before .before .before .before .own-way .result) (sym (c .before .before .before .before .before .before .before .before .before .past-write .ensures) ∙ c .before .before .before .before .before .before .before .before .if1 .left) (c .before .before .before .before .before .before .before .if2 .left) (c .before .before .before .before .before .before .quotient .ensures .0) (c .before .before .before .before .rest .ensures .0) (c .before .before .before .before .before .own-way .ensures))
-    (c .before .before .write-way .ensures d e)
+    rw (write-some (a .g) (now (a .image)) (b .pre) (a .x) (a .len) u d e (c .before .before .before .before .before .before .quotient .result) (c .before .before .before .before .rest .result) (c .before .before .before .before .before .own-way .result) (sym (c .before .before .before .before .before .before .before .before .before .past-write .ensures) ∙ c .before .before .before .before .before .before .before .before .if1 .left) (c .before .before .before .before .before .before .before .if2 .left) (c .before .before .before .before .before .before .quotient .ensures .0) (c .before .before .before .before .rest .ensures .0) (c .before .before .before .before .before .own-way .ensures))
+    (c .before .before .write-way .ensures u d e)
 
 pub write-in-spec : {M : Type 1} → statement M
 write-in-spec =

@@ -6,9 +6,9 @@ use mathlib.Core.Path.{sym, subst, _∙_}
 use lib.ListN.{length}
 use Rattle.qcow2_jobs.specs.Jobs.{jobUnits, DecisionIn}
 use Rattle.qcow2_jobs.specs.declared.finding.Decision.{Decision}
-use Rattle.qcow2_spec.specs.Store.{writeWay}
+use Rattle.qcow2_spec.specs.Store.{backingCluster, writeWay}
 use Rattle.qcow2_write.proofs.Some.{job-some}
-use Rattle.qcow2_ways.proofs.Listings.{list-refused, list-units, clearing-refused, clearing-some}
+use Rattle.qcow2_ways.proofs.Listings.{length-backing, list-refused, list-units, clearing-refused, clearing-some}
 use Rattle.qcow2_ways.proofs.Most.{job-most}
 use Rattle.qcow2_ways.proofs.write_way.Statement.{statement}
 use Rattle.qcow2_ways.proofs.write_way.Tie as tie
@@ -32,23 +32,25 @@ job-rows-requires c κs =
     rw (c .before .bytes-of .ensures .0) ((omega (arith, c .before .before .before .before .clear-row .ensures .0), job-most n (s .pre .0 .0 .0 .short) (2 ^ a .g .bits) (p .0 .0) i), (omega (arith, s .pre .1 .0), omega (arith, s .pre .1 .1)))
 
 returns : tie.Need-returns
-returns c d e =
+returns c b d e =
     let a = c .before .before .before .before .before .before .args in
     let l = now (a .image) in
     let p = c .before .found .given in
-    list-refused l _ (now (a .rows)) (p .0 .0) (clearing-refused l (writeWay l (a .way) (a .guest) (a .o) d) (p .0 .0) (rw (p .1) at (sym (c .before .before .before .find-job .ensures .same (a .o) d))))
+    list-refused l _ (now (a .rows)) (p .0 .0) (clearing-refused l (writeWay b l (a .way) (a .guest) (a .o) d) (p .0 .0) (rw (p .1) at (sym (c .before .before .before .find-job .ensures .same b (a .o) d))))
 
 returns-2 : tie.Need-returns-2
-returns-2 c d e =
+returns-2 c b d e =
     let s = c .before .before .before .before .before .before .before .before .before .before .before .before .before .before .before .before .before in
     let a = s .args in
     let l = now (a .image) in
     let p = c .before .before .before .before .before .before .before .before .before .before .before .before .found2 .given in
-    let U = jobUnits (p .0 .0) (2 ^ a .g .bits) (a .o) d in
+    let u = backingCluster b l (a .guest) in
+    let U = jobUnits (p .0 .0) (2 ^ a .g .bits) (a .o) u d in
+    let f = c .before .before .before .before .before .before .bytes-of .ensures .0 in
     let k = c .before .before .before .before .before .before .before .before .before .clear-row in
     let j = c .before .before .before .before .job-rows in
-    rw (clearing-some l (writeWay l (a .way) (a .guest) (a .o) d) U (rw (p .1) at (sym (c .before .before .before .before .before .before .before .before .before .before .before .before .before .before .find-job .ensures .same (a .o) d))) (job-some (p .0 .0) _ (a .o) d (omega (arith, e, s .pre .1 .1))))
-    (list-units l U (now (a .rows)) _ _ _ _ _ (k .ensures .1) (rw (c .before .before .before .before .before .before .bytes-of .ensures .0) at (j .ensures .1 d e)) (j .kept .0 ∙ k .kept .1 .1 .0) (c .listed .ensures))
+    rw (clearing-some l (writeWay b l (a .way) (a .guest) (a .o) d) U (rw (p .1) at (sym (c .before .before .before .before .before .before .before .before .before .before .before .before .before .before .find-job .ensures .same b (a .o) d))) (job-some (p .0 .0) _ (a .o) u d (omega (arith, e, s .pre .1 .1))))
+    (list-units l U (now (a .rows)) _ _ _ _ _ (k .ensures .1) (rw f at (j .ensures .1 u d (length-backing b l (a .guest) _ (f ∙ s .pre .0 .0 .0 .is-cluster)) e)) (j .kept .0 ∙ k .kept .1 .1 .0) (c .listed .ensures))
 
 pub write-way-spec : {M : Type 1} → statement M
 write-way-spec =

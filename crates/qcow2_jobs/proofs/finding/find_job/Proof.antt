@@ -22,18 +22,18 @@ returns : tie.Need-returns
 returns c =
     let a = c .before .before .before .before .args in
     let p = c .before .way .given in
-    write-bad (now (a .image)) _ _ (a .way) (a .guest) (p .0 .0) (p .1)
+    write-bad (now (a .image)) _ (a .way) (a .guest) (p .0 .0) (p .1)
 
 returns-2 : tie.Need-returns-2
 returns-2 c =
     let a = c .before .before .before .before .args in
-    write-none (now (a .image)) _ _ (a .way) (a .guest) _ (c .before .enum-told .given .1) (c .find-table .ensures)
+    write-none (now (a .image)) _ (a .way) (a .guest) _ (c .before .enum-told .given .1) (c .find-table .ensures)
 
 returns-3 : tie.Need-returns-3
 returns-3 c =
     let a = c .before .before .before .before .before .args in
     let p = c .before .before .way2 .given in
-    write-there (now (a .image)) _ _ (a .way) (a .guest) _ (p .0 .0) (p .0 .1 .0) (p .1) (c .find-slot .ensures)
+    write-there (now (a .image)) _ (a .way) (a .guest) _ (p .0 .0) (p .0 .1 .0) (p .1) (c .find-slot .ensures (a .guest))
 
 pub find-job-spec : {M : Type 1} → statement M
 find-job-spec =

@@ -13,26 +13,27 @@ count-at-requires : tie.Need-count-at-requires
 count-at-requires c κs = (c .before .before .before .before .pre .0, omega arith)
 
 returns : tie.Need-returns
-returns c =
+returns c guest =
     let s = c .before .before .before .before in
     let a = s .args in
-    rw (← c .before .before .free-from .ensures) (full (a .g) (now (a .image)) (s .pre .0) (a .entry-at) (c .before .before .free-from .result) (c .if1 .taken))
+    rw (← c .before .before .free-from .ensures) (full (a .g) (now (a .image)) (s .pre .0) guest (a .entry-at) (c .before .before .free-from .result) (a .e) (c .if1 .taken))
 
-mul-t9 : tie.Need-mul-t9
-mul-t9 c =
-    let s = c .before .before .before .before .before .before in
+mul-t10 : tie.Need-mul-t10
+mul-t10 c =
+    let s = c .before .before .before .before .before .before .before in
     let a = s .args in
-    let h = inside-at (a .g) (now (a .image)) (s .pre .0) (c .before .before .before .before .free-from .result) (c .bytes-of .result) (omega arith) (c .bytes-of .ensures .0) in
+    let h = inside-at (a .g) (now (a .image)) (s .pre .0) (c .before .before .before .before .before .free-from .result) (c .bytes-of .result) (omega arith) (c .bytes-of .ensures .0) in
     omega (arith, s .pre .0 .short)
 
 returns-2 : tie.Need-returns-2
-returns-2 c =
-    let s = c .before .before .before .before .before .before in
+returns-2 c guest =
+    let s = c .before .before .before .before .before .before .before in
     let a = s .args in
-    let f = c .before .before .before .before .free-from in
-    let n = c .before .count-at in
+    let f = c .before .before .before .before .before .free-from in
+    let n = c .before .before .count-at in
+    let m = c .before .has-mark in
     let b = c .bytes-of in
-    rw (← f .ensures) (newly (a .g) (now (a .image)) (s .pre .0) (a .entry-at) (f .result) (n .result) (b .result) (omega arith) (s .pre .1) (n .ensures .0) (n .ensures .1) (b .ensures .0))
+    rw (← f .ensures) (newly (a .g) (now (a .image)) (s .pre .0) guest (a .entry-at) (f .result) (a .e) (m .result) (n .result) (b .result) (m .ensures) (omega arith) (s .pre .1) (n .ensures .0) (n .ensures .1) (b .ensures .0))
 
 pub find-new-spec : {M : Type 1} → statement M
 find-new-spec =
@@ -42,5 +43,6 @@ find-new-spec =
     returns
     count-at-requires
     (search needs)
-    mul-t9
+    (search needs)
+    mul-t10
     returns-2)

@@ -9,22 +9,22 @@ find-new-requires : tie.Need-find-new-requires
 find-new-requires c κs = (c .before .before .before .pre .opened, c .before .before .before .pre .inside)
 
 returns : tie.Need-returns
-returns c =
+returns c x =
     let s = c .before .before .before .before in
     let a = s .args in
-    slot-new (a .g) (now (a .image)) (a .entry-at) (a .e) (s .pre) _ (sym (c .before .before .place-of .ensures .0) ∙ c .before .if1 .taken) (c .find-new .ensures)
+    slot-new (a .g) (now (a .image)) (a .entry-at) (a .e) (s .pre) x _ (sym (c .before .before .place-of .ensures .0) ∙ c .before .if1 .taken) (c .find-new .ensures x)
 
 returns-2 : tie.Need-returns-2
-returns-2 c =
+returns-2 c x =
     let s = c .before .before .before .before .before in
     let a = s .args in
-    slot-marked (a .g) (now (a .image)) (a .entry-at) (a .e) (s .pre) (c .before .before .before .place-of .result) (c .before .before .before .place-of .ensures .0) (c .before .before .if1 .left) (sym (c .before .has-mark .ensures) ∙ c .if2 .taken)
+    slot-marked (a .g) (now (a .image)) (a .entry-at) (a .e) (s .pre) x (c .before .before .before .place-of .result) (c .before .before .before .place-of .ensures .0) (c .before .before .if1 .left) (sym (c .before .has-mark .ensures) ∙ c .if2 .taken)
 
 returns-3 : tie.Need-returns-3
-returns-3 c =
+returns-3 c x =
     let s = c .before .before .before .before .before in
     let a = s .args in
-    slot-bytes (a .g) (now (a .image)) (a .entry-at) (a .e) (s .pre) (c .before .before .before .place-of .result) (c .before .before .before .place-of .ensures .0) (c .before .before .if1 .left) (sym (c .before .has-mark .ensures) ∙ c .if2 .left)
+    slot-bytes (a .g) (now (a .image)) (a .entry-at) (a .e) (s .pre) x (c .before .before .before .place-of .result) (c .before .before .before .place-of .ensures .0) (c .before .before .if1 .left) (sym (c .before .has-mark .ensures) ∙ c .if2 .left)
 
 pub find-slot-spec : {M : Type 1} → statement M
 find-slot-spec =

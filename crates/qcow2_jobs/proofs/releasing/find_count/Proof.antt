@@ -16,7 +16,7 @@ returns c =
     let a = c .before .before .before .before .args in
     let l = now (a .image) in
     let z : countOf l (a .k) ≡ 0 = rw (c .before .before .count-at .ensures .0, c .before .before .before .before .pre .0 .is-width) at (sym (c .before .load .ensures) ∙ c .if1 .taken) in
-    uncounted l (length l) (a .at) (a .k) z
+    uncounted l (length l) (a .at) (a .value) (a .k) z
 
 returns-2 : tie.Need-returns-2
 unfolding countOf
@@ -27,7 +27,7 @@ returns-2 c =
     let p = c .before .before .count-at in
     let n = c .before .load in
     let m : n .result ≡ countOf l (a .k) = rw (p .ensures .0, s .pre .0 .is-width) at (n .ensures) in
-    falls l (length l) (a .at) (a .k) (a .g .order) (p .result) (n .result) (s .pre .0 .is-width) (p .ensures .0) m (c .if1 .left) (s .pre .1 .0) (p .ensures .1)
+    falls l (length l) (a .at) (a .value) (a .k) (a .g .order) (p .result) (n .result) (s .pre .0 .is-width) (p .ensures .0) m (c .if1 .left) (s .pre .1 .0) (p .ensures .1)
 
 pub find-count-spec : {M : Type 1} → statement M
 find-count-spec =

@@ -5,19 +5,22 @@ use mathlib.Core.Path.{_≡_, refl}
 use mathlib.Core.List.{List, [], _∷_, _++_}
 use lib.ListN.{length}
 use denote.Ref.{now}
-use Rattle.units.specs.Units.{UnitStore, count, entry, fill, cluster}
+use Rattle.units.specs.Units.{UnitStore, count, entry, fill}
 use Rattle.units.proofs.Laws.{length-fill}
+use Rattle.endian.specs.Big.{splice}
+use Rattle.fills.specs.Padded.{padded}
+use Rattle.fills.proofs.Fills.{length-over}
 use Rattle.qcow2_spec.specs.Entries.{newEntry}
 use lib.ListN.{replicate, length-append, length-replicate}
 use Rattle.qcow2_put.specs.Links.{tableUnits}
-use Rattle.units.proofs.Steps.{two, stored, length-new}
+use Rattle.units.proofs.Steps.{two, stored}
 use Rattle.qcow2_put.proofs.linking.put_table.Statement.{statement}
 use Rattle.qcow2_put.proofs.linking.put_table.Tie as tie
 
 returns : tie.Need-returns
 unfolding newEntry tableUnits
 returns c =
-    let s = c .before .before .before .before .before .before .before .before .before .before .before .before .before .before .before in
+    let s = c .before .before .before .before .before .before .before .before .before .before .before .before .before .before .before .before in
     let a = s .args in
     let p = a .p in
     let l = now (a .image) in
@@ -25,12 +28,13 @@ returns c =
     let y = c .before .before .before .before .before .before .before .allot in
     let z = c .before .before .before .put-two in
     let U : List UnitStore = count (2 ^ p .order) (p .tablecount) 1 ∷ fill (p .table) (replicate (a .c) 0) in
-    let D : List UnitStore = count (2 ^ p .order) (p .datacount) 1 ∷ fill (p .place) (cluster (a .c) (a .o) (now (a .src))) in
+    let E : List ℕ = splice (padded (a .c) (now (a .base))) (a .o) (now (a .src)) in
+    let D : List UnitStore = count (2 ^ p .order) (p .datacount) 1 ∷ fill (p .place) E in
     let W : List UnitStore = entry (p .slot) (p .place + 9223372036854775808) ∷ entry (p .link) (p .table + 9223372036854775808) ∷ [] in
     let R : List ℕ = replicate (a .c) 0 in
     let n : length R ≡ a .c = length-replicate (a .c) 0 in
     let u : length U ≡ 1 + a .c = omega (arith, length-fill R (p .table)) in
-    let v : length D ≡ 1 + a .c = length-new (2 ^ p .order) (p .datacount) (p .place) (a .c) (a .o) (now (a .src)) (s .pre .1) in
+    let v : length D ≡ 1 + a .c = omega (arith, length-fill E (p .place), length-over (a .c) (now (a .base)) (a .o) (now (a .src)) (s .pre .1 .1) (s .pre .1 .0)) in
     let m : length (U ++ D) ≡ 1 + a .c + (1 + a .c) = rw (length-append, u, v) refl in
     let f : length (U ++ D ++ W) ≡ 2 * a .c + 4 = rw (length-append, m) (omega arith) in
     let g : y .result ≡ a .allowance - (1 + a .c + (1 + a .c)) = omega arith in

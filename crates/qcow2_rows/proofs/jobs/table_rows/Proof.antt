@@ -16,7 +16,7 @@ returns c =
     let f = c .before .before .before .before .before .before .put-entry .ensures in
     let g = c .before .before .put-entry2 .ensures in (
       omega (arith, s .pre .0 .0, a .0, b .0, d .0, e .0, f .0, g .0),
-      λ o l h. puts-same (rows-table (s .args .p) (s .args .c) o l h (s .pre .1)) (puts-then (puts-then (puts-then (puts-then (puts-then (a .1) (b .1)) (d .1)) (e .1)) (f .1)) (g .1)),
+      λ bs h. puts-same (rows-table (s .args .p) (s .args .c) bs h (s .pre .1)) (puts-then (puts-then (puts-then (puts-then (puts-then (a .1) (b .1)) (d .1)) (e .1)) (f .1)) (g .1)),
     )
 
 pub table-rows-spec : {M : Type 1} → statement M
