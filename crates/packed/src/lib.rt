@@ -1,7 +1,7 @@
 // Numbers of one width side by side: their bytes as the compiler loads many at a time. The crates above compare them by loops without an early exit,
 // which become vector code, with one promise for every width.
 ghost use mathlib.Core.Path.{_≡_};
-ghost use Prim.Native.Nat.{_+_, _≤_, _<_};
+ghost use Prim.Native.Nat.{_+_, _≤_};
 ghost use lib.ListN.{length};
 ghost use Rattle.packed.specs.Lanes.{lanes, bytesAt};
 

@@ -20,7 +20,7 @@ use units::Outcome;
 pub fn translate(image: &[u8], backing: &[u8], x: u64) -> Found
     ensures { λ r. ⌜ r ≡ translation (now (backing .entry)) (now (image .entry)) x ⌝ }
 {
-    let j = qcow2_header::judge_over(image, backing);
+    let j = qcow2_header::judge(image, backing.len() != 0);
     match j {
         Judged::Refused(k) => Found::Refused(k),
         Judged::Accepted(g) => qcow2_guest::translated(image, g, x),
@@ -31,7 +31,7 @@ pub fn translate(image: &[u8], backing: &[u8], x: u64) -> Found
 pub fn read(image: &[u8], backing: &[u8], x: u64, out: &mut [u8]) -> u8
     ensures { λ r. ⌜ (r ≡ readNumber (now (backing .entry)) (now (image .entry)) 0 x (length (now (out .entry)))) × (now (out .exit) ≡ readInto (now (backing .entry)) (now (image .entry)) 0 x (now (out .entry))) ⌝ }
 {
-    let j = qcow2_header::judge_over(image, backing);
+    let j = qcow2_header::judge(image, backing.len() != 0);
     match j {
         Judged::Refused(k) => k,
         Judged::Accepted(g) => qcow2_read::read_into(image, backing, g, x, out),
@@ -42,7 +42,7 @@ pub fn read(image: &[u8], backing: &[u8], x: u64, out: &mut [u8]) -> u8
 pub fn read_snapshot(image: &[u8], backing: &[u8], snapshot: u64, x: u64, out: &mut [u8]) -> u8
     ensures { λ r. ⌜ (r ≡ readNumber (now (backing .entry)) (now (image .entry)) (suc snapshot) x (length (now (out .entry)))) × (now (out .exit) ≡ readInto (now (backing .entry)) (now (image .entry)) (suc snapshot) x (now (out .entry))) ⌝ }
 {
-    let j = qcow2_header::judge_over(image, backing);
+    let j = qcow2_header::judge(image, backing.len() != 0);
     match j {
         Judged::Refused(k) => k,
         Judged::Accepted(g) => qcow2_calls::read_snapshot(image, backing, g, snapshot, x, out),
@@ -54,7 +54,7 @@ pub fn read_snapshot(image: &[u8], backing: &[u8], snapshot: u64, x: u64, out: &
 pub fn lookup<'a>(image: &'a [u8], backing: &[u8], x: u64) -> &'a [u8]
     ensures { λ r. ⌜ now r ≡ inPlace (now (backing .entry)) (now (image .entry)) x ⌝ }
 {
-    let j = qcow2_header::judge_over(image, backing);
+    let j = qcow2_header::judge(image, backing.len() != 0);
     match j {
         Judged::Refused(_) => &image[..0],
         Judged::Accepted(g) => qcow2_read::part_in(image, g, x),
@@ -66,7 +66,7 @@ pub fn lookup<'a>(image: &'a [u8], backing: &[u8], x: u64) -> &'a [u8]
 pub fn runs(image: &[u8], backing: &[u8], x: u64, len: u64, rows: &mut [u64]) -> Listed
     ensures { λ r. ⌜ (r ≡ listRuns (now (backing .entry)) (now (image .entry)) 0 x len (length (now (rows .entry)) / 3)) × (now (rows .exit) ≡ runsInto (now (backing .entry)) (now (image .entry)) 0 x len (now (rows .entry))) ⌝ }
 {
-    let j = qcow2_header::judge_over(image, backing);
+    let j = qcow2_header::judge(image, backing.len() != 0);
     match j {
         Judged::Refused(k) => Listed::Refused(k),
         Judged::Accepted(g) => qcow2_runs::listed(image, g, x, len, rows),
@@ -77,7 +77,7 @@ pub fn runs(image: &[u8], backing: &[u8], x: u64, len: u64, rows: &mut [u64]) ->
 pub fn write(image: &mut [u8], backing: &[u8], x: u64, src: &[u8], allowance: usize) -> Outcome
     ensures { λ r. ⌜ Done (writePlan (now (backing .entry)) (now (image .entry)) x (now (src .entry))) allowance (now (image .entry)) r (now (image .exit)) ⌝ }
 {
-    let j = qcow2_header::judge_over(image, backing);
+    let j = qcow2_header::judge(image, backing.len() != 0);
     match j {
         Judged::Refused(k) => Outcome::Refused(k),
         Judged::Accepted(g) => qcow2_calls::write(image, backing, g, x, src, allowance),
@@ -88,7 +88,7 @@ pub fn write(image: &mut [u8], backing: &[u8], x: u64, src: &[u8], allowance: us
 pub fn discard(image: &mut [u8], backing: &[u8], guest: u64, allowance: usize) -> Outcome
     ensures { λ r. ⌜ Done (discardPlan (now (backing .entry)) (now (image .entry)) guest) allowance (now (image .entry)) r (now (image .exit)) ⌝ }
 {
-    let j = qcow2_header::judge_over(image, backing);
+    let j = qcow2_header::judge(image, backing.len() != 0);
     match j {
         Judged::Refused(k) => Outcome::Refused(k),
         Judged::Accepted(g) => qcow2_calls::discard(image, g, guest, allowance),
@@ -100,7 +100,7 @@ pub fn discard(image: &mut [u8], backing: &[u8], guest: u64, allowance: usize) -
 pub fn check(image: &[u8], backing: &[u8], scratch: &mut [u8]) -> Verdict
     ensures { λ r. ⌜ (r ≡ checked (now (backing .entry)) (now (image .entry)) (length (now (scratch .entry)))) × (now (scratch .exit) ≡ scratchLeft (now (backing .entry)) (now (image .entry)) (now (scratch .entry))) ⌝ }
 {
-    let j = qcow2_header::judge_over(image, backing);
+    let j = qcow2_header::judge(image, backing.len() != 0);
     match j {
         Judged::Refused(k) => Verdict::Refused(k),
         Judged::Accepted(g) => qcow2_calls::check(image, scratch, g),
@@ -112,7 +112,7 @@ pub fn check(image: &[u8], backing: &[u8], scratch: &mut [u8]) -> Verdict
 pub fn repair(image: &mut [u8], backing: &[u8], scratch: &mut [u8], allowance: usize) -> Outcome
     ensures { λ r. ⌜ Done (repairPlan (now (backing .entry)) (now (image .entry)) (length (now (scratch .entry)))) allowance (now (image .entry)) r (now (image .exit)) × (now (scratch .exit) ≡ scratchLeft (now (backing .entry)) (now (image .entry)) (now (scratch .entry))) ⌝ }
 {
-    let j = qcow2_header::judge_over(image, backing);
+    let j = qcow2_header::judge(image, backing.len() != 0);
     match j {
         Judged::Refused(k) => Outcome::Refused(k),
         Judged::Accepted(g) => qcow2_calls::repair(image, scratch, g, allowance),

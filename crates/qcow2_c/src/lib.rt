@@ -167,7 +167,7 @@ pub extern "C" fn qcow2_backed_geometry(
 ) -> u32
     ensures { λ r. ⌜ (r ≡ judge (now (backing .entry)) (now (image .entry))) × ((now («cluster_bits» .exit) ≡ (if eqb (judge (now (backing .entry)) (now (image .entry))) 0 then clusterBits (now (image .entry)) else 0)) × ((now (size .exit) ≡ (if eqb (judge (now (backing .entry)) (now (image .entry))) 0 then diskSize (now (image .entry)) else 0)) × (now (clusters .exit) ≡ (if eqb (judge (now (backing .entry)) (now (image .entry))) 0 then clustersOf (now (image .entry)) else 0)))) ⌝ }
 {
-    let j = qcow2_header::judge_over(image, backing);
+    let j = qcow2_header::judge(image, backing.len() != 0);
     match j {
         Judged::Refused(k) => {
             *cluster_bits = 0;

@@ -5,7 +5,7 @@ use mathlib.Core.Path.{_≡_}
 use mathlib.Core.Bool.{true, false}
 use mathlib.Core.List.{List}
 use lib.ListN.{length}
-use Rattle.qcow2_spec.specs.Header.{clusterSize, perTable, rootSize}
+use Rattle.qcow2_spec.specs.Header.{perTable, rootSize}
 use Rattle.qcow2_spec.specs.Entries.{goodL1, common}
 use Rattle.qcow2_spec.specs.Guest.{l1Entry, way}
 use Rattle.qcow2_spec.specs.Store.{ownSlot, ownWay}

@@ -3,8 +3,6 @@ ghost use mathlib.Core.Path.{_≡_};
 ghost use Prim.Native.Nat.{_/_, _^_, _≤_, _<_};
 ghost use Rattle.choice.specs.Pick.{ceilDiv};
 ghost use Rattle.qcow2_spec.specs.Header.{mostBits, mostReach, perTable, rootSize};
-ghost use Rattle.qcow2_spec.specs.Entries.{goodL1, common};
-ghost use Rattle.qcow2_spec.specs.Guest.{l1Entry};
 ghost use Rattle.qcow2_spec.specs.Store.{ownSlot, ownWay};
 ghost use Rattle.qcow2_spec.specs.Opened.{Active};
 ghost use Rattle.qcow2_own.specs.Common.{commonRow};

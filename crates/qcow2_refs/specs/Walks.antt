@@ -7,7 +7,7 @@ use mathlib.Core.List.{List}
 use lib.Dec.{eqb, ltb}
 use lib.ListN.{length}
 use Rattle.choice.specs.Pick.{if_then_else_, all}
-use Rattle.endian.specs.Big.{be64, part, entries}
+use Rattle.endian.specs.Big.{be64, part}
 use Rattle.qcow2_spec.specs.Header.{version, clusterSize, perTable, rootAt}
 use Rattle.qcow2_spec.specs.Entries.{place, common, goodL1}
 use Rattle.qcow2_spec.specs.References.{l2Entries}

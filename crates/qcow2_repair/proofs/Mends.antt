@@ -12,7 +12,7 @@ use Rattle.qcow2_spec.specs.declared.Verdict.the-variants.{Sound, Leaks, BadL1,
 use Rattle.qcow2_repair.specs.Leaks.{Figured, Leaking}
 use Rattle.qcow2_repair.specs.Mends.{mendingOf, mendPlan}
 use Rattle.qcow2_repair.specs.declared.Mending.{Mending}
-use Rattle.qcow2_repair.specs.declared.Mending.the-variants.{Refuse, Nothing, Counts}
+use Rattle.qcow2_repair.specs.declared.Mending.the-variants.{Counts}
 use Rattle.qcow2_repair.proofs.Repairs.{leaking}
 
 plan-is : (s : List ℕ) (v : Verdict) → verdictPlan s v ≡ mendPlan s (mendingOf v)

@@ -1,5 +1,4 @@
 // The rows of the counts that a repair sets, all of epoch 1.
-ghost use mathlib.Core.Path.{_≡_};
 ghost use Prim.Native.Nat.{_+_, _≤_};
 ghost use Rattle.packed_twos.specs.Twos.{many, figuresIn};
 ghost use Rattle.qcow2_spec.specs.Check.{repairUnits};

@@ -6,7 +6,6 @@ use mathlib.Core.Bool.{Bool, true, false, not}
 use mathlib.Core.List.{List, [], _∷_}
 use lib.Dec.{eqb}
 use Rattle.choice.specs.Pick.{if_then_else_}
-use Rattle.choice.proofs.Tests.{if-elim}
 use Rattle.qcow2_spec.specs.Entries.{place}
 use Rattle.qcow2_spec.specs.References.{l1Entries, l2Entries}
 use Rattle.qcow2_spec.specs.Check.{Seek, l2Verdict, entryVerdict, l1Verdict, badIn, rootsVerdict, wrongMarks}

@@ -1,16 +1,16 @@
 -- A good entry is 0 or names a cluster, with a zero mark or without one. Assumes nothing.
-use Prim.Native.Nat.{ℕ, zero, suc, _+_, _-_, _*_, _/_, _%_, _^_, _≤_, _<_}
-use native.Mathlib.Nat.{div-add-mod', div-div-eq-div-mul, mul-mod-left}
+use Prim.Native.Nat.{ℕ, _+_, _-_, _*_, _/_, _%_, _^_, _≤_, _<_}
+use native.Mathlib.Nat.{div-add-mod', div-div-eq-div-mul}
 use native.Mathlib.Omega.{arith}
-use mathlib.Core.Path.{_≡_, refl, sym, ap, _∙_, subst}
-use mathlib.Core.Logic.{_⊎_, inl, inr, _↔_, _≢_}
+use mathlib.Core.Path.{_≡_, refl, ap, _∙_, subst}
+use mathlib.Core.Logic.{_⊎_, inl, inr, _≢_}
 use mathlib.Core.Bool.{Bool, true, false, not, _&&_, _||_}
 use lib.Dec.{leb, eqb}
-use borrow.Author.Tests.{leb-true, eqb-true, eqb-false, not-true, not-false, le-leb, eq-eqb, ne-eqb}
+use borrow.Author.Tests.{leb-true, eqb-true, eqb-false, not-true, le-leb, eq-eqb, ne-eqb}
 use Rattle.choice.proofs.Tests.{true-not-false, and-true, or-true}
 use Rattle.qcow2_spec.specs.Header.{mostLength}
 use Rattle.qcow2_spec.specs.Entries.{place, goodPlace, goodL1, goodL2, compressed, zeroMark}
-use Rattle.qcow2_spec.specs.Good.{Names, Unmarked, MaybeMarked, GoodEntries}
+use Rattle.qcow2_spec.specs.Good.{Unmarked, MaybeMarked, GoodEntries}
 
 -- ---- the bits of a good entry
 -- bits 0 to 8, the place, and bit 63 are all of an entry whose bits 56 to 62 are clear

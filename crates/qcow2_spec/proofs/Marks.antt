@@ -1,15 +1,15 @@
 -- An image without snapshots in which nothing is shared and every place has bit 63 beside it has right marks: its check need not look at them
 -- again. Assumes nothing.
-use Prim.Native.Nat.{ℕ, suc, _+_, _*_, _/_, _≤_, _<_, min}
+use Prim.Native.Nat.{ℕ, suc, _+_, _/_, _≤_, _<_}
 use native.Mathlib.Nat.{div-lt-iff-lt-mul}
 use native.Mathlib.Omega.{arith}
 use mathlib.Core.Path.{_≡_, refl, sym, ap, _∙_}
 use mathlib.Core.Logic.{_≢_}
 use mathlib.Core.Bool.{Bool, true, false, not, _&&_, _||_}
-use mathlib.Core.List.{List, [], _∷_, _++_}
-use lib.Dec.{leb, ltb, eqb}
+use mathlib.Core.List.{List, [], _∷_}
+use lib.Dec.{eqb}
 use lib.ListN.{getD, length}
-use borrow.Author.Tests.{ltb-false, eqb-true, eqb-false, eq-eqb, ne-eqb, not-true}
+use borrow.Author.Tests.{ltb-false, eqb-false, eq-eqb, ne-eqb, not-true}
 use Rattle.choice.specs.Pick.{if_then_else_, all, first}
 use Rattle.choice.proofs.Runs.{first-passed}
 use Rattle.choice.proofs.Tests.{if-yes, true-not-false, and-true}

@@ -33,7 +33,7 @@ fn write_in(image: &[u8], g: Geometry, x: u64, len: u64, rows: &mut [u64]) -> Li
 pub fn write_steps(image: &[u8], backing: &[u8], x: u64, len: u64, rows: &mut [u64]) -> Listed
     ensures { λ r. ⌜ ((d : List ℕ) → length d ≡ len → Listing (now (image .entry)) (writePlan (now (backing .entry)) (now (image .entry)) x d) (now (rows .entry)) r (now (rows .exit))) ⌝ }
 {
-    let j = qcow2_header::judge_over(image, backing);
+    let j = qcow2_header::judge(image, backing.len() != 0);
     match j {
         Judged::Refused(k) => Listed::Refused(k),
         Judged::Accepted(g) => write_in(image, g, x, len, rows),
@@ -55,7 +55,7 @@ fn discard_in(image: &[u8], g: Geometry, guest: u64, rows: &mut [u64]) -> Listed
 pub fn discard_steps(image: &[u8], backing: &[u8], guest: u64, rows: &mut [u64]) -> Listed
     ensures { λ r. ⌜ Listing (now (image .entry)) (discardPlan (now (backing .entry)) (now (image .entry)) guest) (now (rows .entry)) r (now (rows .exit)) ⌝ }
 {
-    let j = qcow2_header::judge_over(image, backing);
+    let j = qcow2_header::judge(image, backing.len() != 0);
     match j {
         Judged::Refused(k) => Listed::Refused(k),
         Judged::Accepted(g) => discard_in(image, g, guest, rows),
@@ -77,7 +77,7 @@ fn repair_in(image: &[u8], g: Geometry, scratch: &mut [u8], rows: &mut [u64]) ->
 pub fn repair_steps(image: &[u8], backing: &[u8], scratch: &mut [u8], rows: &mut [u64]) -> Listed
     ensures { λ r. ⌜ Listing (now (image .entry)) (repairPlan (now (backing .entry)) (now (image .entry)) (length (now (scratch .entry)))) (now (rows .entry)) r (now (rows .exit)) × (now (scratch .exit) ≡ scratchLeft (now (backing .entry)) (now (image .entry)) (now (scratch .entry))) ⌝ }
 {
-    let j = qcow2_header::judge_over(image, backing);
+    let j = qcow2_header::judge(image, backing.len() != 0);
     match j {
         Judged::Refused(k) => Listed::Refused(k),
         Judged::Accepted(g) => repair_in(image, g, scratch, rows),

@@ -2,9 +2,9 @@
 use Prim.Native.Nat.{ℕ, _*_, _/_, _<_, min}
 use native.Mathlib.Nat.{min-zero}
 use native.Mathlib.Omega.{arith}
-use mathlib.Core.Path.{_≡_, refl, sym, ap, _∙_}
+use mathlib.Core.Path.{_≡_, refl, sym, _∙_}
 use mathlib.Core.List.{List, [], _∷_, _++_, append-nil}
-use lib.ListN.{length, take, drop}
+use lib.ListN.{length}
 use lib.Seq.{take-nil, drop-nil, take-append-seam, drop-append-seam}
 use Rattle.choice.proofs.Each.{length-each}
 use Rattle.endian.specs.Big.{splice}

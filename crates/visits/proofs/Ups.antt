@@ -1,10 +1,10 @@
 -- One reference more where the lower byte is not full. Assumes nothing.
-use Prim.Native.Nat.{ℕ, suc, _+_, _*_, _/_, _%_, _<_, min}
+use Prim.Native.Nat.{ℕ, suc, _+_, _*_, _/_, _%_, _<_}
 use native.Mathlib.Omega.{arith}
 use mathlib.Core.Path.{_≡_, sym, ap, _∙_}
 use mathlib.Core.List.{List}
 use lib.ListN.{getD, set}
-use lib.Seq.{set-getD, sets}
+use lib.Seq.{set-getD}
 use Rattle.endian.specs.Big.{be16, bytes16}
 use Rattle.tally.specs.States.{step, visited}
 use Rattle.tally.proofs.Steps.{step-count}

@@ -10,30 +10,33 @@ use Rattle.qcow2.proofs.lookup.Statement.{statement}
 use Rattle.qcow2.proofs.lookup.Tie as tie
 
 part-in-requires : tie.Need-part-in-requires
+unfolding someLent
 part-in-requires c κs =
     let a = c .before .before .before .before .before .before .args in
     let s = now (a .image) in
     let b = now (a .backing) in
     let g = c .before .j .given .0 .0 in
-    let e : opened (someLent b) s ≡ Accepted g = sym (c .before .before .before .judge-over .ensures) ∙ c .before .j .given .1 in
+    let e : opened (someLent b) s ≡ Accepted g = sym (c .before .before .before .judge .ensures) ∙ c .before .j .given .1 in
     active b s g e
 
 returns : tie.Need-returns
+unfolding someLent
 returns c =
     let a = c .before .before .before .before .before .before .args in
     let s = now (a .image) in
     let b = now (a .backing) in
     let k = c .before .enum-told .given .0 .0 in
-    let e : opened (someLent b) s ≡ Refused k = sym (c .before .before .before .judge-over .ensures) ∙ c .before .enum-told .given .1 in
+    let e : opened (someLent b) s ≡ Refused k = sym (c .before .before .before .judge .ensures) ∙ c .before .enum-told .given .1 in
     sym (place-refused b s k e (a .x))
 
 returns-2 : tie.Need-returns-2
+unfolding someLent
 returns-2 c =
     let a = c .before .before .before .before .before .before .before .args in
     let s = now (a .image) in
     let b = now (a .backing) in
     let g = c .before .before .j .given .0 .0 in
-    let e : opened (someLent b) s ≡ Accepted g = sym (c .before .before .before .before .judge-over .ensures) ∙ c .before .before .j .given .1 in
+    let e : opened (someLent b) s ≡ Accepted g = sym (c .before .before .before .before .judge .ensures) ∙ c .before .before .j .given .1 in
     let r = c .part-in .ensures in
     r ∙ place-taken b s g e (a .x)
 

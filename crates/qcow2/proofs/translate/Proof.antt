@@ -10,30 +10,33 @@ use Rattle.qcow2.proofs.translate.Statement.{statement}
 use Rattle.qcow2.proofs.translate.Tie as tie
 
 translated-requires : tie.Need-translated-requires
+unfolding someLent
 translated-requires c κs =
     let a = c .before .before .before .before .before .before .args in
     let s = now (a .image) in
     let b = now (a .backing) in
     let g = c .before .j2 .given .0 .0 in
-    let e : opened (someLent b) s ≡ Accepted g = sym (c .before .before .before .judge-over .ensures) ∙ c .before .j2 .given .1 in
+    let e : opened (someLent b) s ≡ Accepted g = sym (c .before .before .before .judge .ensures) ∙ c .before .j2 .given .1 in
     active b s g e
 
 returns : tie.Need-returns
+unfolding someLent
 returns c =
     let a = c .before .before .before .before .before .before .args in
     let s = now (a .image) in
     let b = now (a .backing) in
     let k = c .before .j .given .0 .0 in
-    let e : opened (someLent b) s ≡ Refused k = sym (c .before .before .before .judge-over .ensures) ∙ c .before .j .given .1 in
+    let e : opened (someLent b) s ≡ Refused k = sym (c .before .before .before .judge .ensures) ∙ c .before .j .given .1 in
     sym (translate-refused b s k e (a .x))
 
 returns-2 : tie.Need-returns-2
+unfolding someLent
 returns-2 c =
     let a = c .before .before .before .before .before .before .before .args in
     let s = now (a .image) in
     let b = now (a .backing) in
     let g = c .before .before .j2 .given .0 .0 in
-    let e : opened (someLent b) s ≡ Accepted g = sym (c .before .before .before .before .judge-over .ensures) ∙ c .before .before .j2 .given .1 in
+    let e : opened (someLent b) s ≡ Accepted g = sym (c .before .before .before .before .judge .ensures) ∙ c .before .before .j2 .given .1 in
     let r = c .translated .ensures in
     r ∙ translate-taken b s g e (a .x)
 

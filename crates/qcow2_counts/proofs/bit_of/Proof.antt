@@ -2,7 +2,7 @@ use borrow.Author.Needs.{needs}
 use native.Mathlib.Nat.{mul-le-mul-right}
 use native.Mathlib.Omega.{arith}
 use Prim.Native.Nat.{ℕ, _+_, _*_, _^_, _≤_}
-use mathlib.Core.Path.{_≡_, ap}
+use mathlib.Core.Path.{ap}
 use lib.Pow.{pow-mono}
 use Rattle.qcow2_counts.proofs.bit_of.Statement.{statement}
 use Rattle.qcow2_counts.proofs.bit_of.Tie as tie

@@ -1,6 +1,5 @@
 use borrow.Author.Needs.{needs}
 use native.Mathlib.Omega.{arith}
-use mathlib.Core.Path.{sym}
 use Rattle.qcow2_groups.proofs.walk_entry.Statement.{statement}
 use Rattle.qcow2_groups.proofs.walk_entry.Tie as tie
 

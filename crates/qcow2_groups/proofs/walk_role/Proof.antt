@@ -1,7 +1,6 @@
 use borrow.Author.Needs.{needs}
 use native.Mathlib.Omega.{arith}
 use Prim.Native.Nat.{_*_, _%_, _^_, _≤_, _<_}
-use mathlib.Core.Path.{_≡_}
 use lib.Pow.{pow-mono}
 use denote.Ref.{now}
 use Rattle.qcow2_spec.proofs.Places.{cluster-below}

@@ -1,7 +1,5 @@
 use borrow.Author.Needs.{needs}
 use mathlib.Core.Path.{sym, _∙_}
-use denote.Ref.{now}
-use lib.ListN.{length}
 use Rattle.qcow2_header.specs.Chain.{from9}
 use Rattle.qcow2_header.proofs.Laws.{tables-is, placed}
 use Rattle.qcow2_header.proofs.judge_tables.Statement.{statement}

@@ -1,5 +1,5 @@
 use denote.Ref.{now}
-use mathlib.Core.Path.{sym, _∙_, ap}
+use mathlib.Core.Path.{sym, _∙_}
 use Rattle.qcow2_own.proofs.Rows.{row-root, own-common, own-other}
 use borrow.Author.Needs.{needs}
 use Rattle.qcow2_own.proofs.own_way.Statement.{statement}

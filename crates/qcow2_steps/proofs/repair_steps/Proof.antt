@@ -13,31 +13,33 @@ use Rattle.qcow2_steps.proofs.repair_steps.Statement.{statement}
 use Rattle.qcow2_steps.proofs.repair_steps.Tie as tie
 
 repair-in-requires : tie.Need-repair-in-requires
+unfolding someLent
 repair-in-requires c κs =
     let a = c .before .before .before .before .before .before .before .before .before .before .args in
     let s = now (a .image) in
     let b = now (a .backing) in
     let g = c .before .before .before .j2 .given .0 .0 in
-    let e : opened (someLent b) s ≡ Accepted g = sym (c .before .before .before .before .before .judge-over .ensures) ∙ c .before .before .before .j2 .given .1 in
+    let e : opened (someLent b) s ≡ Accepted g = sym (c .before .before .before .before .before .judge .ensures) ∙ c .before .before .before .j2 .given .1 in
     active b s g e
 
 returns : tie.Need-returns
-unfolding repairPlan
+unfolding repairPlan someLent
 returns c =
     let a = c .before .before .before .before .before .before .before .before .args in
     let s = now (a .image) in
     let b = now (a .backing) in
     let k = c .before .j .given .0 .0 in
-    let e : opened (someLent b) s ≡ Refused k = sym (c .before .before .before .judge-over .ensures) ∙ c .before .j .given .1 in
+    let e : opened (someLent b) s ≡ Refused k = sym (c .before .before .before .judge .ensures) ∙ c .before .j .given .1 in
     (list-refused s (repairPlan b s (length (now (a .scratch)))) (now (a .rows)) k (judged-refused b s k e _), sym (scratch-refused b s k e (now (a .scratch))))
 
 returns-2 : tie.Need-returns-2
+unfolding someLent
 returns-2 c =
     let a = c .before .before .before .before .before .before .before .before .before .before .before .before .before .before .before .args in
     let s = now (a .image) in
     let b = now (a .backing) in
     let g = c .before .before .before .before .before .before .before .before .j2 .given .0 .0 in
-    let e : opened (someLent b) s ≡ Accepted g = sym (c .before .before .before .before .before .before .before .before .before .before .judge-over .ensures) ∙ c .before .before .before .before .before .before .before .before .j2 .given .1 in
+    let e : opened (someLent b) s ≡ Accepted g = sym (c .before .before .before .before .before .before .before .before .before .before .judge .ensures) ∙ c .before .before .before .before .before .before .before .before .j2 .given .1 in
     (rw (← repair-taken b s g e (length (now (a .scratch)))) (c .before .before .before .before .repair-in .ensures .0), c .before .before .before .before .repair-in .ensures .1 ∙ scratch-taken b s g e (now (a .scratch)))
 
 pub repair-steps-spec : {M : Type 1} → statement M

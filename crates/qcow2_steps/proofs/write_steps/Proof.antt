@@ -12,31 +12,33 @@ use Rattle.qcow2_steps.proofs.write_steps.Statement.{statement}
 use Rattle.qcow2_steps.proofs.write_steps.Tie as tie
 
 write-in-requires : tie.Need-write-in-requires
+unfolding someLent
 write-in-requires c κs =
     let a = c .before .before .before .before .before .before .before .before .args in
     let s = now (a .image) in
     let b = now (a .backing) in
     let g = c .before .before .j2 .given .0 .0 in
-    let e : opened (someLent b) s ≡ Accepted g = sym (c .before .before .before .before .judge-over .ensures) ∙ c .before .before .j2 .given .1 in
+    let e : opened (someLent b) s ≡ Accepted g = sym (c .before .before .before .before .judge .ensures) ∙ c .before .before .j2 .given .1 in
     active b s g e
 
 returns : tie.Need-returns
-unfolding writePlan
+unfolding writePlan someLent
 returns c d q =
     let a = c .before .before .before .before .before .before .before .args in
     let s = now (a .image) in
     let b = now (a .backing) in
     let k = c .before .j .given .0 .0 in
-    let e : opened (someLent b) s ≡ Refused k = sym (c .before .before .before .judge-over .ensures) ∙ c .before .j .given .1 in
+    let e : opened (someLent b) s ≡ Refused k = sym (c .before .before .before .judge .ensures) ∙ c .before .j .given .1 in
     list-refused s (writePlan b s (a .x) d) (now (a .rows)) k (judged-refused b s k e _)
 
 returns-2 : tie.Need-returns-2
+unfolding someLent
 returns-2 c d q =
     let a = c .before .before .before .before .before .before .before .before .before .before .before .args in
     let s = now (a .image) in
     let b = now (a .backing) in
     let g = c .before .before .before .before .before .j2 .given .0 .0 in
-    let e : opened (someLent b) s ≡ Accepted g = sym (c .before .before .before .before .before .before .before .judge-over .ensures) ∙ c .before .before .before .before .before .j2 .given .1 in
+    let e : opened (someLent b) s ≡ Accepted g = sym (c .before .before .before .before .before .before .before .judge .ensures) ∙ c .before .before .before .before .before .j2 .given .1 in
     rw (← write-taken b s g e (a .x) d) (c .before .before .write-in .ensures b d q)
 
 pub write-steps-spec : {M : Type 1} → statement M
