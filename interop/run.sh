@@ -10,6 +10,9 @@ set -eu
 
 here=$(cd "$(dirname "$0")" && pwd)
 QSTORE=${QSTORE:-$here/../tool/target/release/qstore}
+for need in "$QSTORE" qemu-img qemu-io qemu-nbd; do
+    command -v "$need" > /dev/null || { echo "interop: no $need" >&2; exit 2; }
+done
 work=$(mktemp -d)
 trap 'rm -rf "$work"' EXIT
 cd "$work"
