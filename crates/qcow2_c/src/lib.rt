@@ -80,8 +80,7 @@ pub extern "C" fn qcow2_backed_runs(
     ensures { λ r. ⌜ ((r ≡ listedCode (listRuns (now (backing .entry)) (now (image .entry)) 0 offset len (length (now (rows .entry)) / 3))) × (now (count .exit) ≡ listedRows (listRuns (now (backing .entry)) (now (image .entry)) 0 offset len (length (now (rows .entry)) / 3)))) × (now (rows .exit) ≡ runsInto (now (backing .entry)) (now (image .entry)) 0 offset len (now (rows .entry))) ⌝ }
 {
     let l = qcow2::runs(image, backing, offset, len, rows);
-    *count = qcow2_codes::listed_rows(l);
-    qcow2_codes::listed_code(l)
+    qcow2_codes::put_listed(l, count)
 }
 
 #[no_mangle]
@@ -96,8 +95,7 @@ pub extern "C" fn qcow2_backed_write(
     ensures { λ r. ⌜ ((r ≡ outcomeCode (outcome (writePlan (now (backing .entry)) (now (image .entry)) offset (now (src .entry))) allowance)) × (now (units .exit) ≡ outcomeUnits (outcome (writePlan (now (backing .entry)) (now (image .entry)) offset (now (src .entry))) allowance))) × (now (image .exit) ≡ after (writePlan (now (backing .entry)) (now (image .entry)) offset (now (src .entry))) allowance (now (image .entry))) ⌝ }
 {
     let o = qcow2::write(image, backing, offset, src, allowance as usize);
-    *units = qcow2_codes::outcome_units(o);
-    qcow2_codes::outcome_code(o)
+    qcow2_codes::put_outcome(o, units)
 }
 
 #[no_mangle]
@@ -111,8 +109,7 @@ pub extern "C" fn qcow2_backed_discard(
     ensures { λ r. ⌜ ((r ≡ outcomeCode (outcome (discardPlan (now (backing .entry)) (now (image .entry)) cluster) allowance)) × (now (units .exit) ≡ outcomeUnits (outcome (discardPlan (now (backing .entry)) (now (image .entry)) cluster) allowance))) × (now (image .exit) ≡ after (discardPlan (now (backing .entry)) (now (image .entry)) cluster) allowance (now (image .entry))) ⌝ }
 {
     let o = qcow2::discard(image, backing, cluster, allowance as usize);
-    *units = qcow2_codes::outcome_units(o);
-    qcow2_codes::outcome_code(o)
+    qcow2_codes::put_outcome(o, units)
 }
 
 #[no_mangle]
@@ -126,8 +123,7 @@ pub extern "C" fn qcow2_backed_repair(
     ensures { λ r. ⌜ ((r ≡ outcomeCode (outcome (repairPlan (now (backing .entry)) (now (image .entry)) (length (now (scratch .entry)))) allowance)) × (now (units .exit) ≡ outcomeUnits (outcome (repairPlan (now (backing .entry)) (now (image .entry)) (length (now (scratch .entry)))) allowance))) × ((now (image .exit) ≡ after (repairPlan (now (backing .entry)) (now (image .entry)) (length (now (scratch .entry)))) allowance (now (image .entry))) × (now (scratch .exit) ≡ scratchLeft (now (backing .entry)) (now (image .entry)) (now (scratch .entry)))) ⌝ }
 {
     let o = qcow2::repair(image, backing, scratch, allowance as usize);
-    *units = qcow2_codes::outcome_units(o);
-    qcow2_codes::outcome_code(o)
+    qcow2_codes::put_outcome(o, units)
 }
 
 #[no_mangle]
@@ -142,10 +138,7 @@ pub extern "C" fn qcow2_backed_check(
     ensures { λ r. ⌜ (((r ≡ verdictCode (check (now (backing .entry)) (now (image .entry)) (length (now (scratch .entry))))) × (now (first .exit) ≡ verdictFirst (check (now (backing .entry)) (now (image .entry)) (length (now (scratch .entry)))))) × ((now (second .exit) ≡ verdictSecond (check (now (backing .entry)) (now (image .entry)) (length (now (scratch .entry))))) × (now (third .exit) ≡ verdictThird (check (now (backing .entry)) (now (image .entry)) (length (now (scratch .entry))))))) × (now (scratch .exit) ≡ scratchLeft (now (backing .entry)) (now (image .entry)) (now (scratch .entry))) ⌝ }
 {
     let v = qcow2::check(image, backing, scratch);
-    *first = qcow2_codes::verdict_first(v);
-    *second = qcow2_codes::verdict_second(v);
-    *third = qcow2_codes::verdict_third(v);
-    qcow2_codes::verdict_code(v)
+    qcow2_codes::put_verdict(v, first, second, third)
 }
 
 // A stored count less the scratch's figure, with its sign: below zero the cluster is short.
@@ -217,8 +210,7 @@ pub extern "C" fn qcow2_backed_write_steps(
     ensures { λ r. ⌜ ((d : List ℕ) → length d ≡ len → ((r ≡ listedCode (listSteps (now (image .entry)) (writePlan (now (backing .entry)) (now (image .entry)) offset d) (length (now (rows .entry))))) × (now (count .exit) ≡ listedRows (listSteps (now (image .entry)) (writePlan (now (backing .entry)) (now (image .entry)) offset d) (length (now (rows .entry)))))) × (now (rows .exit) ≡ stepsInto (now (image .entry)) (writePlan (now (backing .entry)) (now (image .entry)) offset d) (now (rows .entry)))) ⌝ }
 {
     let l = qcow2_steps::write_steps(image, backing, offset, len, rows);
-    *count = qcow2_codes::listed_rows(l);
-    qcow2_codes::listed_code(l)
+    qcow2_codes::put_listed(l, count)
 }
 
 #[no_mangle]
@@ -232,8 +224,7 @@ pub extern "C" fn qcow2_backed_discard_steps(
     ensures { λ r. ⌜ ((r ≡ listedCode (listSteps (now (image .entry)) (discardPlan (now (backing .entry)) (now (image .entry)) cluster) (length (now (rows .entry))))) × (now (count .exit) ≡ listedRows (listSteps (now (image .entry)) (discardPlan (now (backing .entry)) (now (image .entry)) cluster) (length (now (rows .entry)))))) × (now (rows .exit) ≡ stepsInto (now (image .entry)) (discardPlan (now (backing .entry)) (now (image .entry)) cluster) (now (rows .entry))) ⌝ }
 {
     let l = qcow2_steps::discard_steps(image, backing, cluster, rows);
-    *count = qcow2_codes::listed_rows(l);
-    qcow2_codes::listed_code(l)
+    qcow2_codes::put_listed(l, count)
 }
 
 #[no_mangle]
@@ -247,6 +238,5 @@ pub extern "C" fn qcow2_backed_repair_steps(
     ensures { λ r. ⌜ ((r ≡ listedCode (listSteps (now (image .entry)) (repairPlan (now (backing .entry)) (now (image .entry)) (length (now (scratch .entry)))) (length (now (rows .entry))))) × (now (count .exit) ≡ listedRows (listSteps (now (image .entry)) (repairPlan (now (backing .entry)) (now (image .entry)) (length (now (scratch .entry)))) (length (now (rows .entry)))))) × ((now (rows .exit) ≡ stepsInto (now (image .entry)) (repairPlan (now (backing .entry)) (now (image .entry)) (length (now (scratch .entry)))) (now (rows .entry))) × (now (scratch .exit) ≡ scratchLeft (now (backing .entry)) (now (image .entry)) (now (scratch .entry)))) ⌝ }
 {
     let l = qcow2_steps::repair_steps(image, backing, scratch, rows);
-    *count = qcow2_codes::listed_rows(l);
-    qcow2_codes::listed_code(l)
+    qcow2_codes::put_listed(l, count)
 }

@@ -8,7 +8,7 @@ use qcow2_spec::Listed;
 use qcow2_spec::Verdict;
 use units::Outcome;
 
-pub fn listed_code(l: Listed) -> u32
+fn listed_code(l: Listed) -> u32
     ensures { λ r. ⌜ r ≡ listedCode l ⌝ }
 {
     match l {
@@ -17,7 +17,7 @@ pub fn listed_code(l: Listed) -> u32
     }
 }
 
-pub fn listed_rows(l: Listed) -> u64
+fn listed_rows(l: Listed) -> u64
     ensures { λ r. ⌜ r ≡ listedRows l ⌝ }
 {
     match l {
@@ -26,7 +26,7 @@ pub fn listed_rows(l: Listed) -> u64
     }
 }
 
-pub fn outcome_code(o: Outcome) -> u32
+fn outcome_code(o: Outcome) -> u32
     ensures { λ r. ⌜ r ≡ outcomeCode o ⌝ }
 {
     match o {
@@ -36,7 +36,7 @@ pub fn outcome_code(o: Outcome) -> u32
     }
 }
 
-pub fn outcome_units(o: Outcome) -> u64
+fn outcome_units(o: Outcome) -> u64
     ensures { λ r. ⌜ r ≡ outcomeUnits o ⌝ }
 {
     match o {
@@ -63,7 +63,7 @@ fn snapshot_of(table: usize) -> u64
     (table - 1) as u64
 }
 
-pub fn verdict_code(v: Verdict) -> u32
+fn verdict_code(v: Verdict) -> u32
     ensures { λ r. ⌜ r ≡ verdictCode v ⌝ }
 {
     match v {
@@ -79,7 +79,7 @@ pub fn verdict_code(v: Verdict) -> u32
     }
 }
 
-pub fn verdict_first(v: Verdict) -> u64
+fn verdict_first(v: Verdict) -> u64
     ensures { λ r. ⌜ r ≡ verdictFirst v ⌝ }
 {
     match v {
@@ -95,7 +95,7 @@ pub fn verdict_first(v: Verdict) -> u64
     }
 }
 
-pub fn verdict_second(v: Verdict) -> u64
+fn verdict_second(v: Verdict) -> u64
     ensures { λ r. ⌜ r ≡ verdictSecond v ⌝ }
 {
     match v {
@@ -111,7 +111,7 @@ pub fn verdict_second(v: Verdict) -> u64
     }
 }
 
-pub fn verdict_third(v: Verdict) -> u64
+fn verdict_third(v: Verdict) -> u64
     ensures { λ r. ⌜ r ≡ verdictThird v ⌝ }
 {
     match v {
@@ -125,4 +125,28 @@ pub fn verdict_third(v: Verdict) -> u64
         Verdict::MarkL2(_, _) => 0,
         Verdict::Refused(_) => 0,
     }
+}
+
+// Each is stored with the values beside it, and its code is the answer.
+pub fn put_listed(l: Listed, count: &mut u64) -> u32
+    ensures { λ r. ⌜ (r ≡ listedCode l) × (now (count .exit) ≡ listedRows l) ⌝ }
+{
+    *count = listed_rows(l);
+    listed_code(l)
+}
+
+pub fn put_outcome(o: Outcome, units: &mut u64) -> u32
+    ensures { λ r. ⌜ (r ≡ outcomeCode o) × (now (units .exit) ≡ outcomeUnits o) ⌝ }
+{
+    *units = outcome_units(o);
+    outcome_code(o)
+}
+
+pub fn put_verdict(v: Verdict, first: &mut u64, second: &mut u64, third: &mut u64) -> u32
+    ensures { λ r. ⌜ ((r ≡ verdictCode v) × (now (first .exit) ≡ verdictFirst v)) × ((now (second .exit) ≡ verdictSecond v) × (now (third .exit) ≡ verdictThird v)) ⌝ }
+{
+    *first = verdict_first(v);
+    *second = verdict_second(v);
+    *third = verdict_third(v);
+    verdict_code(v)
 }

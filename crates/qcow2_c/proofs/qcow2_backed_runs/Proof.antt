@@ -7,7 +7,7 @@ use Rattle.qcow2_c.proofs.qcow2_backed_runs.Tie as tie
 returns : tie.Need-returns
 returns c =
     let e = c .before .before .before .before .runs .ensures in
-    ((c .listed-code .ensures ∙ ap listedCode (e .0), c .before .listed-rows .ensures ∙ ap listedRows (e .0)), e .1)
+    ((c .put-listed .ensures .0 ∙ ap listedCode (e .0), c .put-listed .ensures .1 ∙ ap listedRows (e .0)), e .1)
 
 pub qcow2-backed-runs-spec : {M : Type 1} → statement M
-qcow2-backed-runs-spec = tie.close (tie.spec (search needs) (search needs) (search needs) (search needs) returns)
+qcow2-backed-runs-spec = tie.close (tie.spec (search needs) (search needs) (search needs) returns)
