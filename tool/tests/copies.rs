@@ -266,7 +266,7 @@ fn what_qemu_refuses() {
     assert!(text.contains("`qemu-img convert "), "{text}");
     let copy = with("data-file", &|image| (image[79], image[103]) = (4, 112));
     let text = said(&copy);
-    assert!(text.contains("(6)") && text.contains("qemu has to find the data file"), "{text}");
+    assert!(text.contains("(6)") && text.contains("could name any file of yours"), "{text}");
 }
 
 /// A block past the end that is in use: the image would be damaged.

@@ -61,7 +61,7 @@ pub fn new_image(subject: &Subject, room: u64) -> Result<NewImage, String> {
         true => joined(&salvage(&commands), &lacks),
         false => usual(&commands, "qcow2", room, &lacks),
     };
-    let text = joined(&joined(&text, more), needs(&fields));
+    let text = joined(&joined(&text, more), &needs(&fields));
     Ok(NewImage { before: before.unwrap_or_default(), text })
 }
 
@@ -151,15 +151,12 @@ fn lacks(subject: &Subject, fields: &Fields, sectors: bool) -> String {
     }
 }
 
-/// Other files that qemu reads for it.
-fn needs(fields: &Fields) -> &'static str {
-    match (fields.is_over_backing(), fields.incompatible & 4 != 0) {
-        (false, false) => "",
-        (true, false) => "It has the backing file's bytes in it, and no backing file.",
-        (false, true) => "qemu has to find the data file for it.",
-        (true, true) => {
-            "It has the backing file's bytes in it, and no backing file. qemu has to find the data \
-             file for it."
-        }
-    }
+/// Other files that qemu reads for it. The name of a data file stands in the image,
+/// whoever made it.
+fn needs(fields: &Fields) -> String {
+    let backing = "It has the backing file's bytes in it, and no backing file.";
+    let data = "For it qemu opens the file that the image names as its data file: an image from a \
+                stranger could name any file of yours.";
+    let needs = [(fields.is_over_backing(), backing), (fields.incompatible & 4 != 0, data)];
+    needs.into_iter().filter(|need| need.0).map(|need| need.1).collect::<Vec<_>>().join(" ")
 }
