@@ -1,6 +1,6 @@
 /*
- * qcow2_core.h: read, write, discard, check and repair a qcow2 image that lies
- * in memory. The C interface of the proved static library libqcow2_c.a.
+ * qcow2_core.h: read, write, discard, check, repair and extend a qcow2 image that
+ * lies in memory. The C interface of the proved static library libqcow2_c.a.
  *
  * What is lent and to whom
  *   Every pointer is lent for the time of one call. Nothing is kept after the
@@ -9,9 +9,9 @@
  *   and nothing is printed. Calls on different images may run at the same time;
  *   two calls on the same image may do so if neither changes it.
  *
- *   - image, n: the bytes of the whole image file. qcow2_write, qcow2_discard
- *     and qcow2_repair change them; the others only read them. Every call
- *     judges the header afresh and accepts any bytes whatever.
+ *   - image, n: the bytes of the whole image file. qcow2_write, qcow2_discard,
+ *     qcow2_repair and qcow2_extend change them; the others only read them. Every
+ *     call judges the header afresh and accepts any bytes whatever.
  *   - backing, b: the bytes of the image's backing file, whole, the same for
  *     every call on that image. No call changes them. Where the image names no
  *     backing file they are not looked at, whatever they are.
@@ -31,7 +31,7 @@
  *   qcow2_backed_read and the like are the functions of the library; they are
  *   lent the backing file's bytes after the image. qcow2_read and the like are
  *   the same with no such bytes: an image with a backing file is then refused
- *   with 19.
+ *   with 19. qcow2_backing_name and qcow2_extend need none and have one form.
  *
  * Words
  *   C is the cluster size, 2 to the power cluster_bits; N = n / C the clusters
@@ -48,9 +48,9 @@
  *   which nothing here opens. What is not allocated reads as the backing file's
  *   bytes at the same guest offset, and as zeros past their end; a zero mark
  *   reads as zeros.
- *   A unit is the storing of one count, of one L1 or L2 entry, of the autoclear
- *   field, or of one byte of a fill. One that stores a count below 8 bits leaves
- *   the other counts of the byte as they stand then.
+ *   A unit is the storing of one count, of one L1, L2 or refcount table entry, of
+ *   the autoclear field, or of one byte of a fill. One that stores a count below 8
+ *   bits leaves the other counts of the byte as they stand then.
  *
  * Answers
  *   0 is done: finished, sound, listed, or a host offset, as the call has it.
@@ -100,10 +100,15 @@ extern "C" {
  * the image, or the refcount table has too few entries for all clusters. */
 #define QCOW2_WRONG_TABLE 9u
 /* A refcount table entry is wrong: one that has to name a refcount block names
- * none inside the image, or one after the last needed is not 0. */
+ * none inside the image, or one after the last needed is not 0. So is one where
+ * clusters were appended and qcow2_extend has not taken them in. There: the old
+ * length is below 512, above n or no multiple of C, or an entry is wrong: one that
+ * the old length needs names no cluster inside the longer image, one of a new block
+ * is neither 0 nor the block's own place, or one after the last needed is not 0. */
 #define QCOW2_WRONG_BLOCK 10u
 /* There is a backing file, and its name has not 1 to 1,023 bytes or does not lie
- * inside the first cluster; or none of its bytes are lent. */
+ * inside the first cluster; or none of its bytes are lent to a call that needs
+ * them. */
 #define QCOW2_WRONG_BACKING 19u
 /* There are snapshots, and their table does not start at a cluster or an entry
  * of it runs past the image; or a snapshot's L1 table has more than 65,536
@@ -138,7 +143,7 @@ extern "C" {
 
 /* ---- Other answers ------------------------------------------------------- */
 
-/* The allowance was spent before the last unit (write, discard, repair). */
+/* The allowance was spent before the last unit (write, discard, repair, extend). */
 #define QCOW2_STOPPED 1001u
 /* The guest offset reads as zeros (translate, runs). */
 #define QCOW2_ZEROS 1002u
@@ -295,6 +300,34 @@ uint32_t qcow2_backed_discard(uint8_t *image, size_t n, const uint8_t *backing, 
  */
 uint32_t qcow2_backed_repair(uint8_t *image, size_t n, const uint8_t *backing, size_t b,
                              uint8_t *scratch, size_t m, uint64_t allowance, uint64_t *units);
+
+/*
+ * Takes in what was appended to an image that had old bytes. Where the longer one
+ * needs no more refcount blocks, the clusters are there already and the list is
+ * empty. Else every other call refuses it with 10 until this one is finished.
+ *
+ * The list: for each refcount table entry from the blocks of the old length up to
+ * those of n that is 0, rising, the new block, C units, and then the entry, one: C +
+ * 1 for each. The block goes into the first cluster that it counts; its own count is
+ * 1, all others 0. Else 1 to 10, 18, 19 or 21: the header is judged by all n bytes,
+ * a refcount table that is too short for them is 9, and 19 is for a bad name alone.
+ *
+ * Where the first old bytes by themselves are sound or leaking, whatever the others
+ * are: however often the call is stopped, it can be made again, and the last one
+ * leaves just the bytes that a single one would have left. Then the image is sound
+ * or leaking, and its disk and its snapshots read as those old bytes did. It may
+ * leak what it did not before: counts past the old end, which nothing looked at, are
+ * those of appended clusters. Meanwhile any old length that needs as many blocks as
+ * the refcount table names from its first entry on gives the same list, so that the
+ * work can be finished without knowing how long the image once was.
+ *
+ * Over a file: append the zeros and flush the file's length. Then block by block,
+ * on the image in memory: with allowance C the block is made, to be stored and
+ * flushed; with C + 1, in a call after it, its entry too, to be stored and flushed.
+ * Where the autoclear field is to be cleared, a call with allowance 1 and a flush
+ * come before all that. The bytes of a block may be stored in any order.
+ */
+uint32_t qcow2_extend(uint8_t *image, size_t n, uint64_t old, uint64_t allowance, uint64_t *units);
 
 /* ---- Steps ---------------------------------------------------------------
  *

@@ -11,7 +11,8 @@ commands() { # TEXT
 # A command without its names and figures, as advised.tsv has it.
 kinds() { # FILE < COMMANDS
     sed -E "s#([ =])$1\\.new[0-9]*( |\$)#\\1NEW\\2#g; s#([ =])$1([ ,]|\$)#\\1IMAGE\\2#g
-        s#-s ([%+]?)[0-9]+ #-s \\1N #g; s#(convert|compare) -f [a-z0-9]+ #\\1 -f F #; s#(resize .*) [0-9]+\$#\\1 N#"
+        s#-s ([%+]?)[0-9]+ #-s \\1N #g; s#(convert|compare) -f [a-z0-9]+ #\\1 -f F #; s#(resize .*) [0-9]+\$#\\1 N#
+        s#(qstore extend IMAGE) [0-9]+#\\1 N#"
 }
 
 fault() { other=$((other + 1)); echo "$1"; } # TEXT
@@ -24,6 +25,7 @@ heed_once() { # FILE TEXT
     cp "$1" "$1.before"; rm -f "$1.new"
     while read -r command; do
         case $command in
+            'qstore extend '*) "$PROGRAM" ${command#qstore } > /dev/null 2> said || fault "failed: $command: $(cat said)" ;;
             'qstore '*) ;;
             *) sh -ec "$command" > /dev/null 2> said || fault "failed: $command: $(cat said)" ;;
         esac
@@ -106,6 +108,7 @@ small() { # FILE: 512-byte clusters
 }
 small a; truncate -s 1G a; heed "more clusters than the refcount table has entries for" a 9
 small a; patch a 518 '\000\000'; heed "a refcount table entry lost" a 10
+small a; truncate -s 1M a; heed "more clusters than the refcount blocks count" a 10
 small a; patch a 518 '\377\000'
 heed "a refcount table entry that names no cluster" a 10
 
@@ -156,14 +159,18 @@ expect "a write without room" "$(grep -o 'refused ([0-9]*)' <<< "$text")" 'refus
 heed_once a "$text"
 "$QSTORE" write a 400000 < data > /dev/null && text=written || text=refused
 expect "  then" "$text, $(ours a), $(theirs a)" 'written, sound, sound'
-create a 1M -o compat=0.10,cluster_size=512; older a
-text=$("$QSTORE" write a 400000 < data 2>&1 || true)
-expect "a write past the stored counts" "$(grep -o 'refused ([0-9]*)' <<< "$text")" 'refused (14)'
-heed_once a "$text"
-"$QSTORE" write a 400000 < data > /dev/null && text=written || text=refused
-expect "  then" "$text, $(ours a), $(theirs a)" 'written, sound, sound'
-"$QSTORE" read a 400000 500000 | cmp -s - data && text=yes || text=no
-expect "  the bytes are there" "$text" yes
+past_counts() { # WHAT BYTES OPTIONS WANTED: a write into an image with few counts, and the command that is advised
+    create a 4M -o "$3"; older a; head -c "$2" /dev/urandom > data
+    text=$("$QSTORE" write a 400000 < data 2>&1 || true)
+    expect "$1" "$(grep -o 'refused ([0-9]*)' <<< "$text"), $(commands "$text" | head -1 | command cut -d' ' -f1-2)" "refused (14), $4"
+    heed_once a "$text"
+    "$QSTORE" write a 400000 < data > /dev/null && text=written || text=refused
+    expect "  then" "$text, $(ours a), $(theirs a)" 'written, sound, sound'
+    "$QSTORE" read a 400000 "$2" | cmp -s - data && text=yes || text=no
+    expect "  the bytes are there" "$text" yes
+}
+past_counts "a write past the stored counts" 500000 compat=0.10,cluster_size=512 'qstore extend'
+past_counts "a write past the refcount table" 2500000 compat=1.1,cluster_size=512,refcount_bits=64 'qemu-img convert'
 
 # No image of qemu has a disk that ends inside a sector: 104,001 bytes, set by hand.
 create a 1M -o compat=0.10; fill a; qemu-img convert -O raw a a.raw; truncate -s 104448 a.raw

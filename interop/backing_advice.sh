@@ -58,7 +58,8 @@ expect "an L2 entry inside a cluster" "$(commands "$text" | command cut -d' ' -f
 heed_once a "$text"; QSTORE=$qstore
 expect "  then" "$(ours a), $(theirs a)" 'sound, sound'; QSTORE=$work/over
 
-# No room: what is appended is enough; past the stored counts a new image is.
+# No room: what is appended is enough, and what is taken in past the stored counts;
+# past the refcount table a new image is.
 create a 1M -o compat=0.10 -b base.raw -F raw; fill a; lost a
 head -c 300000 /dev/urandom > data
 text=$("$QSTORE" write a 400000 < data 2>&1 || true); heed_once a "$text"
@@ -66,10 +67,16 @@ text=$("$QSTORE" write a 400000 < data 2>&1 || true); heed_once a "$text"
 dd if=data of=a.raw bs=64k oflag=seek_bytes seek=400000 conv=notrunc status=none
 expect "a write without room: then" "$text, $(ours a), $(reads a), $(theirs_over a)" 'written, sound, yes, identical'
 create a 1M -o compat=0.10,cluster_size=512 -b base.raw -F raw; fit a 0; lost a
+text=$("$QSTORE" write a 400000 < data 2>&1 || true); heed_once a "$text"
+"$QSTORE" write a 400000 < data > /dev/null && text=written || text=refused
+dd if=data of=a.raw bs=64k oflag=seek_bytes seek=400000 conv=notrunc status=none
+expect "  past the stored counts" "$text, $(ours a), $(reads a), $(theirs_over a)" 'written, sound, yes, identical'
+create a 4M -o cluster_size=512,refcount_bits=64 -b base.raw -F raw; fit a 0; lost a; fit a 0
+head -c 2500000 /dev/urandom > data
 text=$("$QSTORE" write a 400000 < data 2>&1 || true); heed_once a "$text"; QSTORE=$qstore
 "$QSTORE" write a 400000 < data > /dev/null && text=written || text=refused
 dd if=data of=a.raw bs=64k oflag=seek_bytes seek=400000 conv=notrunc status=none
-expect "  past the stored counts" "$text, $(ours a), $(theirs a), $(compare a)" 'written, sound, sound, identical'
+expect "  past the refcount table" "$text, $(ours a), $(theirs a), $(compare a)" 'written, sound, sound, identical'
 QSTORE=$work/over
 
 # A discard in version 2: version 3 has marks. Without a table a zero makes one.

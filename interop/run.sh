@@ -10,6 +10,7 @@ set -eu
 
 here=$(cd "$(dirname "$0")" && pwd)
 QSTORE=${QSTORE:-$here/../tool/target/release/qstore}
+PROGRAM=$QSTORE # where QSTORE is a script over it
 for need in "$QSTORE" qemu-img qemu-io qemu-nbd; do
     command -v "$need" > /dev/null || { echo "interop: no $need" >&2; exit 2; }
 done
@@ -145,6 +146,7 @@ made "convert -c (compressed clusters)" a 'refused 5; refused 6; damaged'
 
 . "$here/written.sh"
 . "$here/snapshots.sh"
+. "$here/longer.sh"
 . "$here/bitmaps.sh"
 . "$here/advice.sh"
 . "$here/locks.sh"

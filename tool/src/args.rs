@@ -42,12 +42,21 @@ pub enum Command {
         length: u64,
         allowance: u64,
     },
+    /// To so many bytes of the file.
+    Extend {
+        bytes: u64,
+        allowance: u64,
+    },
 }
 
 impl Command {
     /// Is it one that may change the image?
     pub fn changes(&self) -> bool {
-        matches!(self, Command::Repair { .. } | Command::Write { .. } | Command::Discard { .. })
+        match self {
+            Command::Repair { .. } | Command::Write { .. } => true,
+            Command::Discard { .. } | Command::Extend { .. } => true,
+            Command::Info | Command::Check | Command::Map | Command::Read { .. } => false,
+        }
     }
 }
 
@@ -65,7 +74,7 @@ const READS: &[&str] = &["--snapshot", "--share", "--as-if-mended"];
 
 /// A command's name, its operands beside the image, its options beside those
 /// of all, and its help.
-pub const COMMANDS: [(&str, &[&str], &[&str], &str); 7] = [
+pub const COMMANDS: [(&str, &[&str], &[&str], &str); 8] = [
     ("info", &[], LOOKS, help::INFO),
     ("check", &[], LOOKS, help::CHECK),
     ("repair", &[], &["--allowance", "--force"], help::REPAIR),
@@ -73,6 +82,7 @@ pub const COMMANDS: [(&str, &[&str], &[&str], &str); 7] = [
     ("read", &["OFFSET", "LENGTH"], READS, help::READ),
     ("write", &["OFFSET"], &["--allowance"], help::WRITE),
     ("discard", &["OFFSET", "LENGTH"], &["--allowance"], help::DISCARD),
+    ("extend", &["BYTES"], &["--allowance"], help::EXTEND),
 ];
 
 /// What is asked, or what is wrong with the line.
@@ -127,6 +137,7 @@ fn command(name: &str, numbers: &[u64], line: Line) -> Command {
         ("read", &[offset, length]) => Command::Read { offset, length, snapshot },
         ("write", &[offset]) => Command::Write { offset, allowance },
         ("discard", &[offset, length]) => Command::Discard { offset, length, allowance },
+        ("extend", &[bytes]) => Command::Extend { bytes, allowance },
         _ => Command::Map,
     }
 }
@@ -214,6 +225,8 @@ mod tests {
         let command = run("discard a 1M 512").unwrap().command;
         let allowance = u64::MAX;
         assert_eq!(command, Command::Discard { offset: 1 << 20, length: 512, allowance });
+        let command = run("extend a 8M --allowance 7").unwrap().command;
+        assert_eq!(command, Command::Extend { bytes: 8 << 20, allowance: 7 });
         let command = run("repair --force a").unwrap().command;
         assert_eq!(command, Command::Repair { allowance, force: true });
         assert_eq!(run("info a").unwrap().command, Command::Info);
@@ -221,7 +234,8 @@ mod tests {
         assert_eq!(run("map -").unwrap().command, Command::Map);
         let options = run("check a --share --as-if-mended").unwrap();
         assert!(options.share && options.as_if_mended && options.backing.is_none());
-        for line in ["info a", "check a", "repair a", "map a", "read a 0 1", "write a 0"] {
+        let lines = ["info a", "check a", "repair a", "map a", "read a 0 1", "write a 0"];
+        for line in lines.into_iter().chain(["discard a 0 512", "extend a 512"]) {
             let options = run(&format!("{line} --backing -b")).unwrap();
             assert!(options.backing == Some("-b".into()) && !options.as_raw, "{line}");
             assert!(run(&format!("{line} --as-raw --backing b")).unwrap().as_raw, "{line}");
@@ -235,12 +249,15 @@ mod tests {
         assert_eq!(fault("list a"), "there is no command 'list'");
         assert_eq!(fault("info"), "info: IMAGE is missing");
         assert_eq!(fault("read a 0"), "read: LENGTH is missing");
+        assert_eq!(fault("extend a"), "extend: BYTES is missing");
         assert_eq!(fault("check a b"), "check: 'b' is one operand too many");
-        for line in ["check a --force", "write a 0 --force", "discard a 0 512 --force"] {
-            assert_eq!(fault(line), "there is no option '--force' here");
+        for line in ["check a", "write a 0", "discard a 0 512", "extend a 512"] {
+            let fault = fault(&format!("{line} --force"));
+            assert_eq!(fault, "there is no option '--force' here");
         }
-        for line in ["write a 0 --share", "repair a --share", "discard a 0 512 --share"] {
-            assert_eq!(fault(line), "there is no option '--share' here");
+        for line in ["write a 0", "repair a", "discard a 0 512", "extend a 512"] {
+            let fault = fault(&format!("{line} --share"));
+            assert_eq!(fault, "there is no option '--share' here");
         }
         for line in ["check a --snapshot 1", "map a --snapshot 1", "write a 0 --snapshot 1"] {
             assert_eq!(fault(line), "there is no option '--snapshot' here");

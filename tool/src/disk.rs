@@ -1,4 +1,4 @@
-//! Where an image is kept: bytes at places, and a flush.
+//! Where an image is kept: bytes at places, a length, and a flush.
 
 use std::fs::File;
 use std::io::{self, ErrorKind};
@@ -19,6 +19,9 @@ pub trait Disk: Sync {
     }
 
     fn store(&mut self, at: u64, bytes: &[u8]) -> io::Result<()>;
+
+    /// Makes it so long by zeros, which count as stored; it is never made shorter.
+    fn lengthen(&mut self, length: u64) -> io::Result<()>;
 
     /// Returns when everything stored before is safe from a power cut.
     fn flush(&mut self) -> io::Result<()>;
@@ -62,6 +65,17 @@ impl Disk for File {
         self.write_all_at(bytes, at).map_err(|error| placed("storing", at, &error))
     }
 
+    fn lengthen(&mut self, length: u64) -> io::Result<()> {
+        if length < self.metadata()?.len() {
+            return Err(io::Error::other("it would be made shorter"));
+        }
+        let failed = |error: io::Error| {
+            io::Error::new(error.kind(), format!("making it {length} bytes long: {error}"))
+        };
+        self.set_len(length).map_err(failed)
+    }
+
+    /// With the length, which is needed to find the data again.
     fn flush(&mut self) -> io::Result<()> {
         self.sync_data()
     }
@@ -83,6 +97,10 @@ impl<D: Disk> Disk for &mut D {
 
     fn store(&mut self, at: u64, bytes: &[u8]) -> io::Result<()> {
         (**self).store(at, bytes)
+    }
+
+    fn lengthen(&mut self, length: u64) -> io::Result<()> {
+        (**self).lengthen(length)
     }
 
     fn flush(&mut self) -> io::Result<()> {

@@ -43,6 +43,11 @@ fn kinds(bytes: &[u8], fields: &Fields) -> Option<Vec<u32>> {
     Some(all(bytes, fields)?.into_iter().map(|extension| extension.0).collect())
 }
 
+/// Is there none?
+pub fn are_none(bytes: &[u8], fields: &Fields) -> bool {
+    kinds(bytes, fields).is_some_and(|kinds| kinds.is_empty())
+}
+
 /// Are there none but names of features and the format of a backing file?
 pub fn are_names_alone(bytes: &[u8], fields: &Fields) -> bool {
     let name = |kind: &u32| [FEATURE_NAMES, BACKING_FORMAT].contains(kind);

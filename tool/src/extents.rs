@@ -26,8 +26,18 @@ struct Queue<'a> {
 
 /// All bytes of the disk.
 pub fn read<D: Disk>(disk: &D, length: u64, label: &'static str) -> io::Result<Vec<u8>> {
-    let mut bytes = qstore_sys::zeroed(length as usize).ok_or_else(|| too_little(length))?;
-    let parts = parts(disk, &mut bytes)?;
+    read_longer(disk, length, length, label)
+}
+
+/// The same with zeros after them, `whole` bytes in all.
+pub fn read_longer<D: Disk>(
+    disk: &D,
+    length: u64,
+    whole: u64,
+    label: &'static str,
+) -> io::Result<Vec<u8>> {
+    let mut bytes = qstore_sys::zeroed(whole as usize).ok_or_else(|| too_little(whole))?;
+    let parts = parts(disk, &mut bytes[..length as usize])?;
     let data = parts.iter().map(|part| part.1.len() as u64).sum();
     if memory::available().is_some_and(|available| available < data) {
         return Err(too_little(length));

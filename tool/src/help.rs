@@ -42,6 +42,7 @@ qstore: qcow2 images by the proved core
   qstore read    IMAGE OFFSET LENGTH    guest bytes to standard output
   qstore write   IMAGE OFFSET           standard input to guest bytes
   qstore discard IMAGE OFFSET LENGTH    give whole guest clusters back
+  qstore extend  IMAGE BYTES            a longer file, with room for new clusters
 
   --backing FILE  the raw disk under an image whose header names a backing file
   --json          answer as one JSON value on standard output
@@ -190,6 +191,32 @@ an L2 table, a discard is refused (20).
 
 autoclear_features are cleared first: qemu then no longer uses persistent
 bitmaps, which would lack the change.
+",
+    backing!(),
+    allowance!(),
+    "
+Exit: 0 finished, 1 failed, refused or stopped, 2 the image is damaged.
+"
+);
+
+pub const EXTEND: &str = concat!(
+    "\
+qstore extend IMAGE BYTES [--backing FILE] [--json] [--allowance U]
+
+Makes the file BYTES long by zeros and takes the new clusters in, so that writes
+find room: refcount blocks are made for them, and the refcount table names these.
+The disk keeps its size and every byte, and so do snapshots. BYTES is the length of
+the whole file, a multiple of the cluster size, and not less than the file has; a
+file that ends inside a cluster is filled up with it.
+
+All is tried in memory first: if it is refused, the file is not changed. A refcount
+table that is too short for BYTES is 9, and the sentence says how far it reaches.
+The file's length is flushed first, and then each block before the entry that names
+it. After a power cut the image may be refused (10); the same command finishes the
+work.
+
+autoclear_features are cleared first where a block is to be made: qemu then no
+longer uses persistent bitmaps.
 ",
     backing!(),
     allowance!(),

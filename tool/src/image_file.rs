@@ -26,6 +26,16 @@ pub enum Access {
     Lend,
 }
 
+/// How the bytes of a file are seen in memory.
+#[derive(Clone, Copy, PartialEq)]
+pub enum View {
+    AsItIs,
+    /// For looking alone.
+    AsIfMended,
+    /// With zeros up to this length, where the file is shorter.
+    Lengthened(u64),
+}
+
 pub struct ImageFile<D = File> {
     pub path: PathBuf,
     pub file: D,
@@ -33,11 +43,11 @@ pub struct ImageFile<D = File> {
     pub backing: Backing,
     /// What the user has to know of how the bytes were come by.
     pub notes: Vec<String>,
-    /// The file as it is, where the bytes are as if mended.
+    /// The file as it is, where the bytes are as if mended or lengthened.
     pub own: Own,
 }
 
-/// What mending changes.
+/// What another view changes.
 #[derive(Clone, Copy, PartialEq)]
 pub struct Own {
     pub length: u64,
@@ -52,20 +62,24 @@ impl Own {
 }
 
 impl ImageFile {
-    /// Reads the image, and the backing file if one is given for it;
-    /// `as_if_mended` is for looking alone.
+    /// Reads the image, and the backing file if one is given for it.
     pub fn open(
         path: &Path,
         access: Access,
-        as_if_mended: bool,
+        view: View,
         given: Option<Given>,
     ) -> Result<ImageFile, Failure> {
         let file = open_regular(path, access, "an image")?;
         lock::take(&file, access)?;
         let beneath = given.map(|given| given.path);
-        let mut image = ImageFile::read(path, file, access, as_if_mended, beneath)?;
+        let mut image = ImageFile::read(path, file, access, view, beneath)?;
         if let Some(given) = given {
-            let above = Above { access, file: &image.file, bytes: &image.bytes };
+            // What is yet to be taken in may make an image of another number.
+            let seen = match view {
+                View::Lengthened(_) => &image.bytes[..image.own.length as usize],
+                _ => &image.bytes,
+            };
+            let above = Above { access, file: &image.file, bytes: seen };
             image.notes.extend(image.backing.read(given, &above)?);
         }
         Ok(image)
@@ -91,7 +105,7 @@ impl<D: Disk> ImageFile<D> {
         path: &Path,
         mut disk: D,
         access: Access,
-        as_if_mended: bool,
+        view: View,
         backing: Option<&Path>,
     ) -> Result<ImageFile<D>, Failure> {
         let backing = Backing::named(backing);
@@ -103,10 +117,14 @@ impl<D: Disk> ImageFile<D> {
         if length > MAX_IMAGE {
             return Err(too_long(path, &disk, length, &backing)?);
         }
-        let mut bytes = extents::read(&disk, length, "reading the image")?;
+        let whole = match view {
+            View::Lengthened(whole @ ..=MAX_IMAGE) => length.max(whole),
+            _ => length,
+        };
+        let mut bytes = extents::read_longer(&disk, length, whole, "reading the image")?;
         let own = Own::of(&bytes, length);
         let mut notes = shared(access);
-        if as_if_mended {
+        if view == View::AsIfMended {
             notes.extend(mended::mend(&mut bytes));
         }
         Ok(ImageFile { path: path.into(), file: disk, bytes, backing, notes, own })
@@ -140,9 +158,9 @@ fn shared(access: Access) -> Vec<String> {
 }
 
 /// The notes on a file that is too long to be read.
-pub fn notes_unread(access: Access, as_if_mended: bool) -> Vec<String> {
+pub fn notes_unread(access: Access, view: View) -> Vec<String> {
     let mut notes = shared(access);
-    if as_if_mended {
+    if view == View::AsIfMended {
         notes.push("as it is: --as-if-mended mends no file of this length".into());
     }
     notes

@@ -98,6 +98,34 @@ impl Layout {
         first..first + self.table_clusters
     }
 
+    /// The place of an entry of the refcount table.
+    pub fn table_entry_at(&self, index: usize) -> usize {
+        self.table_at.saturating_add(8 * index)
+    }
+
+    /// Entries of the refcount table.
+    pub fn table_entries(&self) -> usize {
+        self.table_clusters * (self.cluster() / 8)
+    }
+
+    /// The entries of the refcount table, as far as the image has them.
+    pub fn table<'a>(&'a self, image: &'a [u8]) -> impl Iterator<Item = u64> + 'a {
+        let entries = 0..self.table_entries();
+        entries.map_while(|index| be64(image, self.table_entry_at(index)))
+    }
+
+    /// The refcount blocks that the image needs and that its table does not name.
+    pub fn missing_blocks<'a>(&'a self, image: &'a [u8]) -> impl Iterator<Item = usize> + 'a {
+        let entries = self.table(image).take(image.len().div_ceil(self.span()));
+        entries.enumerate().filter(|&(_, entry)| entry == 0).map(|(index, _)| index)
+    }
+
+    /// Where a new refcount block goes: into the first cluster that it counts.
+    pub fn new_block(&self, index: usize) -> Range<usize> {
+        let at = index * self.span();
+        at..at + self.cluster()
+    }
+
     /// The clusters of the refcount blocks.
     pub fn blocks<'a>(&'a self, image: &'a [u8]) -> impl Iterator<Item = usize> + 'a {
         let firsts = (0..self.clusters).step_by(self.per_block());
@@ -121,6 +149,11 @@ impl Layout {
     /// Counts in a refcount block.
     pub fn per_block(&self) -> usize {
         self.width.counts_in(self.cluster())
+    }
+
+    /// Bytes of the clusters that one refcount block counts.
+    pub fn span(&self) -> usize {
+        self.per_block() << self.bits
     }
 
     /// The place of the refcount block with a cluster's count, and the count's

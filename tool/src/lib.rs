@@ -7,6 +7,7 @@
 pub mod args;
 pub mod autoclear;
 pub mod backing;
+pub mod bring;
 pub mod call;
 pub mod commands;
 pub mod damage;
@@ -23,6 +24,7 @@ pub mod image_file;
 pub mod json;
 pub mod layout;
 pub mod lock;
+pub mod longer;
 pub mod man;
 pub mod marks;
 pub mod memory;

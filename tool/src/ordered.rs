@@ -18,15 +18,16 @@
 //! backing file's bytes stand beside it, the same for every call.
 
 use std::io;
-use std::ops::Range;
 
 use qcow2_core::{Geometry, Outcome, Step, STEP};
 
 use crate::backing::Backing;
+pub use crate::bring::Fault;
+use crate::bring::{bring, is_told};
 use crate::call::Call;
 use crate::disk::Disk;
 use crate::extents;
-use crate::steps::{ranges, units, within};
+use crate::steps::{units, within};
 use crate::touched::Touched;
 
 pub struct Ordered<D> {
@@ -36,17 +37,6 @@ pub struct Ordered<D> {
     work: Vec<u8>,
     /// What every call is lent beside it.
     backing: Backing,
-}
-
-/// Why the file was not brought further.
-#[derive(Debug)]
-pub enum Fault {
-    Load(io::Error),
-    Store(io::Error),
-    /// After it nothing is known of what the drive holds.
-    Flush(io::Error),
-    /// A call that made other units than its steps have.
-    Unexpected(u64),
 }
 
 impl<D: Disk> Ordered<D> {
@@ -98,7 +88,7 @@ impl<D: Disk> Ordered<D> {
     /// One call, with its changes in the file. A refusal changes nothing.
     pub fn call(&mut self, call: &Call, allowance: u64) -> Result<Outcome, Fault> {
         let (outcome, steps) = self.run(call, allowance)?;
-        self.bring(&steps, |_| ())?;
+        bring(&mut self.disk, &self.work, &steps, |_| ())?;
         Ok(outcome)
     }
 
@@ -119,7 +109,7 @@ impl<D: Disk> Ordered<D> {
         let steps = within(steps, allowance);
         let outcome = qcow2_core::repair(&mut self.work, backing, &mut scratch, allowance);
         is_told(outcome, &steps)?;
-        self.bring(&steps, |units| done(units, total))?;
+        bring(&mut self.disk, &self.work, &steps, |units| done(units, total))?;
         Ok(outcome)
     }
 
@@ -140,37 +130,6 @@ impl<D: Disk> Ordered<D> {
         is_told(outcome, &steps)?;
         Ok((outcome, steps))
     }
-
-    /// Stores the steps' bytes as memory has them, and flushes after each epoch
-    /// that stored anything; `done` hears of the units up to there.
-    fn bring(&mut self, steps: &[Step], mut done: impl FnMut(u64)) -> Result<(), Fault> {
-        let mut spent = 0;
-        for epoch in steps.chunk_by(|one, next| one.epoch == next.epoch) {
-            let mut stored = false;
-            for range in ranges(epoch) {
-                stored |= self.store(range)?;
-            }
-            if stored {
-                self.disk.flush().map_err(Fault::Flush)?;
-            }
-            spent += units(epoch);
-            done(spent);
-        }
-        Ok(())
-    }
-
-    /// Stores what differs in this range: whether anything does.
-    fn store(&mut self, range: Range<usize>) -> Result<bool, Fault> {
-        let mut held = vec![0; range.len()];
-        self.disk.load(range.start as u64, &mut held).map_err(Fault::Load)?;
-        let new = &self.work[range.clone()];
-        let differs = |(old, new): (&u8, &u8)| old != new;
-        let Some(first) = held.iter().zip(new).position(differs) else { return Ok(false) };
-        let last = held.iter().zip(new).rposition(differs).unwrap_or(first);
-        let place = (range.start + first) as u64;
-        self.disk.store(place, &new[first..=last]).map_err(Fault::Store)?;
-        Ok(true)
-    }
 }
 
 /// A step for each count that is set, and one that clears the autoclear bits.
@@ -184,13 +143,4 @@ fn repair_steps(
     let mut rows = vec![0; STEP * (geometry.clusters + 1)];
     let count = qcow2_core::repair_steps(image, backing, scratch, &mut rows)?;
     Ok(Step::of_rows(&rows[..STEP * count]).collect())
-}
-
-/// Has the call made the units that its steps have?
-fn is_told(outcome: Outcome, steps: &[Step]) -> Result<(), Fault> {
-    match outcome {
-        Outcome::Finished(made) | Outcome::Stopped(made) if made == units(steps) => Ok(()),
-        Outcome::Finished(made) | Outcome::Stopped(made) => Err(Fault::Unexpected(made)),
-        Outcome::Refused(number) => Err(Fault::Unexpected(number.into())),
-    }
 }

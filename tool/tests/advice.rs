@@ -35,8 +35,11 @@ fn kind(command: &str, image: &Path) -> String {
     let named = named.replace(" -f qcow2 -F", " -f F -F");
     let mut words: Vec<String> = named.split(' ').map(String::from).collect();
     for index in 1..words.len() {
-        let figure = words[index - 1] == "-s" || words[1] == "resize" && index + 1 == words.len();
-        if figure {
+        let last = words[1] == "resize" && index + 1 == words.len();
+        if words[index - 1] == "--backing" {
+            words[index] = "BACKING".into();
+        }
+        if words[index - 1] == "-s" || last || words[1] == "extend" && index == 3 {
             words[index] = words[index].trim_end_matches(|it: char| it.is_ascii_digit()).into();
             words[index].push('N');
         }
@@ -53,15 +56,24 @@ fn listed(test: &str) -> BTreeSet<String> {
 
 fn sh(command: &str) {
     let program = env!("CARGO_BIN_EXE_qstore");
-    let command = command.replace("qstore check", &format!("{program} check"));
+    let command = match command.strip_prefix("qstore ") {
+        Some(rest) => format!("{program} {rest}"),
+        None => command.into(),
+    };
     let output = Command::new("sh").args(["-ec", &command]).output().expect("sh");
     assert!(output.status.code().is_some_and(|code| code < 3), "{command}: {output:?}");
 }
 
-/// The file before and after a command: what was cut off is zeros that nothing
-/// names, what was added is zeros, and at most header_length is another, with what
-/// is then no longer the header's.
-fn nothing_is_lost(before: &[u8], after: &[u8]) {
+/// Runs a command; the file before and after it: what was cut off is zeros that
+/// nothing names, what was added is zeros, and at most header_length is another, with
+/// what is then no longer the header's.
+fn loses_nothing(copy: &Copy, command: &str) {
+    let before = copy.bytes();
+    sh(command);
+    let after = copy.bytes();
+    if command.starts_with("qstore extend ") {
+        return nothing_is_overwritten(&before, &after);
+    }
     let both = before.len().min(after.len());
     assert!(before[..103] == after[..103] && before[108..both] == after[108..both]);
     if before[103..108] != after[103..108] {
@@ -70,7 +82,18 @@ fn nothing_is_lost(before: &[u8], after: &[u8]) {
             .contains(&after[103..108].try_into().unwrap()));
     }
     assert!(before[both..].iter().chain(&after[both..]).all(|&byte| byte == 0));
-    assert!(after.len() >= before.len() || !names_past(before, after.len()));
+    assert!(after.len() >= before.len() || !names_past(&before, after.len()));
+    nothing_reads_otherwise(&before, &after);
+}
+
+/// Only zeros get other bytes.
+fn nothing_is_overwritten(before: &[u8], after: &[u8]) {
+    assert!(after.len() >= before.len());
+    assert!(before.iter().zip(after).all(|(&before, &after)| before == 0 || before == after));
+    nothing_reads_otherwise(before, after);
+}
+
+fn nothing_reads_otherwise(before: &[u8], after: &[u8]) {
     assert!(guest_by_tables(before) == guest_by_tables(after));
     assert!(snapshots_by_tables(before) == snapshots_by_tables(after));
 }
@@ -83,13 +106,11 @@ fn heed(copy: &Copy, line: &str, input: &[u8], met: &mut BTreeSet<String>) -> Ve
         let Some(rest) = answer.error.split("refused (").nth(1) else { return numbers };
         numbers.push(rest.split(')').next().unwrap().parse().unwrap());
         assert!(numbers.len() < 5, "{}", answer.error);
-        let before = copy.bytes();
         for command in commands(&answer.error) {
             assert!(!command.contains("qemu"), "{command}");
             met.insert(kind(&command, &copy.path));
-            sh(&command);
+            loses_nothing(copy, &command);
         }
-        nothing_is_lost(&before, &copy.bytes());
     }
 }
 
@@ -135,10 +156,21 @@ fn what_is_advised_loses_no_byte() {
     let mut lengthened = image.clone();
     put64(&mut lengthened, 512 + 8, 0);
     case("advice-lengthened", &lengthened, "check IMAGE", &[], &[10]);
+    // The same over a backing file.
+    over(&mut lengthened, b"b.raw", Some(b"raw"));
+    case("advice-lengthened-over", &lengthened, &line, &[], &[10]);
     let mut block_past_end = image.clone();
     block_past_end.truncate(200 * 512);
     case("advice-past-end", &block_past_end, "check IMAGE", &[], &[10]);
     case("advice-room", &bench_image(), "write IMAGE 300", &[9; 9000], &[14]);
+    case("advice-counts", &image, "write IMAGE 300", &[9; 200_000], &[14]);
+    // Of a damaged one the zeros that have no counts can be cut off.
+    let mut damaged = image.clone();
+    put64(&mut damaged, 512 + 8, 0);
+    damaged[block_at + 3] = 0;
+    let copy = Copy::with(&damaged, "advice-damaged");
+    assert_eq!(heed(&copy, "check IMAGE", &[], &mut met), [10]);
+    assert_eq!(copy.run("check IMAGE").exit, 2);
     let copy = Copy::of("51-entry-l2-bit63-no-place.qcow2", "advice-entry");
     let entry = copy.run("read IMAGE 15360 1").error;
     let check = commands(&entry).into_iter().find(|command| command.contains("qstore")).unwrap();
@@ -152,7 +184,7 @@ fn what_is_advised_loses_no_byte() {
 /// The trial in which 272,384 guest bytes were cut off.
 #[test]
 fn a_lost_table_entry_cuts_nothing_off() {
-    let Made { mut image, .. } = made(3, 9, 1024, 1 << 20);
+    let Made { mut image, block_at, .. } = made(3, 9, 1024, 1 << 20);
     for offset in (0..350_000).step_by(512) {
         _ = qcow2_core::write(&mut image, &[], offset, &[7; 512], u64::MAX);
     }
@@ -169,11 +201,26 @@ fn a_lost_table_entry_cuts_nothing_off() {
     for index in 0..3 {
         assert!(lost(&image, index)[0].starts_with("qemu-img convert "), "entry {index}");
     }
-    assert_eq!(lost(&image, 3), ["truncate -s 393216 a"]);
+    assert_eq!(lost(&image, 3), ["qstore extend a 524288"]);
+    // One byte where nothing is stored is left alone, one where the block goes is not
+    // overwritten, but for what a run that was cut leaves.
     let last = image.len() - 1;
+    for (at, byte) in [(last, 1), (393_217, 1)] {
+        image[at] = byte;
+        assert_eq!(lost(&image, 3), ["qstore extend a 524288"]);
+        image[at] = 0;
+    }
+    for (at, byte) in [(393_216, 1), (393_217, 2), (393_218, 1), (393_216 + 511, 1)] {
+        image[at] = byte;
+        assert!(lost(&image, 3)[0].starts_with("qemu-img convert "), "byte {at}");
+        image[at] = 0;
+    }
+    // Of a damaged one the rest can be cut off, if it is zeros.
+    let count = std::mem::replace(&mut image[block_at + 3], 0);
+    assert_eq!(lost(&image, 3), ["truncate -s 393216 a"]);
     image[last] = 1;
     assert!(lost(&image, 3)[0].starts_with("qemu-img convert "));
-    image[last] = 0;
+    (image[last], image[block_at + 3]) = (0, count);
     for at in [95, 104, 112] {
         let mut featured = image.clone();
         featured[at] = 1;
@@ -210,9 +257,7 @@ fn advice_on_any_image() {
             if command.contains("qemu-img") || command.contains(".new") {
                 continue;
             }
-            let before = copy.bytes();
-            sh(&command);
-            nothing_is_lost(&before, &copy.bytes());
+            loses_nothing(&copy, &command);
             run.insert(kind(&command, &copy.path));
         }
         // Where all can be done in place, it is enough. After 10 nothing is asked.
@@ -261,10 +306,11 @@ fn the_list_of_commands_is_whole() {
         all.set_length_back_seen(),
         all.lengthen_disk(512),
         all.check(),
+        all.extend(512),
     ];
     let made: Vec<String> = made.into_iter().chain(of_qemu_img(&all)).collect();
     let over = Commands::of(path, Some(Path::new(BACKING)));
-    let made_over = of_qemu_img(&over).into_iter().chain([over.upgrade()]);
+    let made_over = of_qemu_img(&over).into_iter().chain([over.upgrade(), over.extend(512)]);
     let made_over: Vec<String> = made_over.collect();
     let kinds: BTreeSet<String> = made
         .iter()

@@ -14,7 +14,7 @@ use std::time::{Duration, Instant};
 use common::made::over;
 use common::{bench_image, ended, Copy, Pair};
 
-const COMMANDS: [&[&str]; 7] = [
+const COMMANDS: [&[&str]; 8] = [
     &["info"],
     &["check"],
     &["map"],
@@ -22,6 +22,7 @@ const COMMANDS: [&[&str]; 7] = [
     &["write", "0"],
     &["discard", "0", "512"],
     &["repair"],
+    &["extend", "256k"],
 ];
 
 fn image(format: Option<&[u8]>) -> Vec<u8> {

@@ -13,7 +13,8 @@ use common::{bench_image, ended, Copy, Pair};
 
 const LOOKS: [&str; 5] =
     ["info IMAGE", "check IMAGE", "map IMAGE", "read IMAGE 0 1", "read IMAGE 0 1 --snapshot x"];
-const CHANGES: [&str; 3] = ["write IMAGE 0", "discard IMAGE 0 512", "repair IMAGE"];
+const CHANGES: [&str; 4] =
+    ["write IMAGE 0", "discard IMAGE 0 512", "repair IMAGE", "extend IMAGE 32M"];
 
 /// Clusters of 4,096 bytes, so that the longest name fits.
 fn named(name: &[u8], format: Option<&[u8]>) -> Vec<u8> {

@@ -4,6 +4,7 @@
 mod common;
 
 use common::drive::{accepted, all_torn, open, usable, Drive, Random};
+use common::growing::{extend, Growing};
 use common::kinds::{discard_of, image, write_to, TABLE};
 use common::promise::Promise;
 use qcow2_core::Outcome;
@@ -85,6 +86,21 @@ fn flushes_of_commands() {
     assert_eq!(drive.flushes, 15 + 1 + 1);
     assert!(repair::run(open(&mut drive).ok().unwrap(), u64::MAX, false).is_ok());
     assert_eq!(drive.flushes, 17 + 1);
+}
+
+/// A longer file: the length, the autoclear bits, and two for each block.
+#[test]
+fn flushes_of_extending() {
+    for bits in [0, 1] {
+        let image = image(bits).bytes;
+        for (bytes, blocks) in [(8192, 0), (131_072, 0), (131_584, 1), (1 << 20, 7)] {
+            let mut drive = Growing::with(&image);
+            assert!(extend(&mut drive, &[], bytes, u64::MAX).is_ok());
+            let length = usize::from(bytes > 8192);
+            let clearing = usize::from(bits != 0 && blocks > 0);
+            assert_eq!(drive.flushes, 1 + length + clearing + 2 * blocks);
+        }
+    }
 }
 
 /// For each call and each of its flushes but the last: without it a cut may leave

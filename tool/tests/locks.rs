@@ -22,7 +22,8 @@ const READER: &[u32] = &[100, 201, 203];
 const SHARER: &[u32] = &[100];
 
 const LOOKS: [&str; 4] = ["info IMAGE", "check IMAGE", "map IMAGE", "read IMAGE 0 1"];
-const CHANGES: [&str; 3] = ["write IMAGE 0", "discard IMAGE 0 512", "repair IMAGE"];
+const CHANGES: [&str; 4] =
+    ["write IMAGE 0", "discard IMAGE 0 512", "repair IMAGE", "extend IMAGE 256k"];
 
 /// One test at a time: a process that is being started has this one's open files
 /// until it runs its program, and so holds their locks.

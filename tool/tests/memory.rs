@@ -4,7 +4,7 @@
 mod common;
 
 use std::fs::OpenOptions;
-use std::os::unix::fs::FileExt;
+use std::os::unix::fs::{FileExt, MetadataExt};
 use std::time::{Duration, Instant};
 
 use common::{with_clusters, Copy};
@@ -34,7 +34,18 @@ fn one_byte_in_a_long_file() {
     assert!(peak_of_children().unwrap() < 100 * MIB, "{}", peak_of_children().unwrap());
     assert_eq!(copy.run("check IMAGE").exit, 0);
 
-    // The same with 200 MiB of bytes that nothing refers to.
+    // A file of 16 clusters of 4,096 bytes made as long as can be: 127 blocks.
+    let copy = Copy::with(&with_clusters(12, 16, 1 << 22), "extended");
+    let start = Instant::now();
+    let answer = copy.run("extend IMAGE 1G");
+    assert!(answer.text.contains(" to 1073741824 bytes: 127 new refcount"), "{}", answer.error);
+    assert!(start.elapsed() < Duration::from_secs(20), "{:?}", start.elapsed());
+    assert!(peak_of_children().unwrap() < 100 * MIB, "{}", peak_of_children().unwrap());
+    let stored = 512 * copy.path.metadata().unwrap().blocks();
+    assert!(stored < 4 * MIB, "{stored}");
+    assert_eq!(copy.run("check IMAGE").exit, 0);
+
+    // A byte in 200 MiB of bytes that nothing refers to.
     let copy = long("full", 200 * MIB);
     let file = OpenOptions::new().write(true).open(&copy.path).unwrap();
     let data = vec![1; MIB as usize];

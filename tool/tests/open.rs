@@ -41,7 +41,7 @@ fn what_is_no_regular_file() {
         (Path::new(env!("CARGO_TARGET_TMPDIR")), "a folder"),
     ] {
         let sentence = format!("it is {what}, and an image has to be a regular file\n");
-        for words in [&["check"][..], &["check", "--share"], &["write", "0"], &["repair"]] {
+        for words in [&["check"][..], &["check", "--share"], &["write", "0"], &["extend", "1M"]] {
             let error = ends(path, words);
             assert!(error.ends_with(&sentence), "{error}");
         }
@@ -49,6 +49,40 @@ fn what_is_no_regular_file() {
     assert!(ends(&place("nothing"), &["info"]).contains("No such file"));
     _ = fs::remove_file(fifo);
     _ = fs::remove_file(socket);
+}
+
+/// A file is made longer by zeros, and never shorter.
+#[test]
+fn lengths() {
+    let copy = Copy::with(&bench_image(), "lengths");
+    let mut file = OpenOptions::new().read(true).write(true).open(&copy.path).unwrap();
+    let error = file.lengthen(8191).unwrap_err();
+    assert_eq!(error.to_string(), "it would be made shorter");
+    for length in [8192, 10_000] {
+        file.lengthen(length).unwrap();
+        assert_eq!(file.length().unwrap(), length);
+    }
+    let mut wanted = bench_image();
+    wanted.resize(10_000, 0);
+    assert!(copy.bytes() == wanted);
+    let error = File::open(&copy.path).unwrap().lengthen(20_000).unwrap_err().to_string();
+    assert!(error.starts_with("making it 20000 bytes long: ") && copy.bytes() == wanted, "{error}");
+}
+
+/// The system does not let it be so long.
+#[test]
+fn a_file_that_cannot_be_made_longer() {
+    let copy = Copy::with(&bench_image(), "no-longer");
+    let program = env!("CARGO_BIN_EXE_qstore");
+    let line = "trap '' XFSZ; ulimit -f 100; exec \"$0\" extend \"$1\" 256k";
+    let output = Command::new("sh").args(["-c", line, program]).arg(&copy.path).output().unwrap();
+    let error = String::from_utf8_lossy(&output.stderr);
+    assert_eq!(output.status.code(), Some(1), "{error}");
+    assert!(
+        error.contains(": not changed: making it 262144 bytes long: File too large"),
+        "{error}"
+    );
+    assert!(copy.bytes() == bench_image());
 }
 
 #[test]

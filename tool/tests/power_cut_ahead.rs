@@ -16,7 +16,7 @@ use qcow2_core::{write, Outcome, Verdict};
 use qstore::call::Call;
 use qstore::commands::{discard, repair};
 use qstore::disk::Disk;
-use qstore::image_file::{Access, ImageFile};
+use qstore::image_file::{Access, ImageFile, View};
 use qstore::layout::Layout;
 use qstore::report::Failure;
 
@@ -144,7 +144,7 @@ fn a_failed_first_flush() {
     says_no_more_than_is_known(&failure);
     assert!(drive.epochs.is_empty() && drive.open == ahead);
     // Looking needs no flush.
-    let looked = ImageFile::read(Path::new("drive"), &mut drive, Access::Look, false, None);
+    let looked = ImageFile::read(Path::new("drive"), &mut drive, Access::Look, View::AsItIs, None);
     assert!(looked.ok().unwrap().bytes == drive.cache);
 }
 
@@ -195,6 +195,10 @@ impl Disk for Failing<'_> {
 
     fn store(&mut self, at: u64, bytes: &[u8]) -> io::Result<()> {
         self.drive.store(at, bytes)
+    }
+
+    fn lengthen(&mut self, length: u64) -> io::Result<()> {
+        self.drive.lengthen(length)
     }
 
     fn flush(&mut self) -> io::Result<()> {

@@ -245,7 +245,7 @@ fn lines() {
         let answer = qstore(line, &[]);
         assert!(answer.exit == 1 && answer.error.starts_with("qstore: "), "{line:?}");
     }
-    for command in ["info", "check", "repair", "map", "read", "write", "discard"] {
+    for command in ["info", "check", "repair", "map", "read", "write", "discard", "extend"] {
         let answer = qstore(&[command, "--help"], &[]);
         assert!(answer.exit == 0 && answer.text.starts_with(&format!("qstore {command} IMAGE")));
     }

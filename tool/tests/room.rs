@@ -7,7 +7,7 @@ use std::fs::OpenOptions;
 use std::path::Path;
 
 use common::drive::Random;
-use common::made::{made, over};
+use common::made::{made, made_at, over, put_count, Made};
 use common::Copy;
 use qstore::backing::Backing;
 use qstore::sentences::{refusal, Request, Subject};
@@ -96,18 +96,48 @@ fn counts_past_the_end() {
     follow("room-past", &made.image, 512, 0, &data(18_000, 1));
 }
 
+/// Where the counts end, the file is extended, just so far that the write finds room.
+#[test]
+fn where_the_counts_end() {
+    let mut random = Random(6);
+    for (order, clusters, len) in
+        [(4, 250, 200_000), (4, 30, 400_000), (6, 40, 90_000), (6, 64, 200_000), (5, 100, 70_000)]
+    {
+        let Made { mut image, block_at, .. } = made_at(order, 3, 9, clusters, 1 << 20);
+        // Some counts past the end are taken.
+        for cluster in clusters..clusters.next_multiple_of(4096 >> order) {
+            put_count(&mut image[block_at..], order, cluster, random.below(2) as u64);
+        }
+        let copy = Copy::with(&image, "room-counts");
+        let error = copy.feed("write IMAGE 300", &data(len, 1)).error;
+        assert!(error.contains("refused (14): ") && error.matches('`').count() == 2, "{error}");
+        let command = error.split('`').nth(1).expect("a command");
+        let bytes = command.rsplit(' ').next().and_then(|word| word.parse().ok());
+        let bytes: u64 = bytes.filter(|_| command.starts_with("qstore extend ")).expect(command);
+        assert_eq!(copy.run(&format!("extend IMAGE {}", bytes - 512)).exit, 0);
+        let error = copy.feed("write IMAGE 300", &data(len, 1)).error;
+        assert!(error.contains("refused (14): "), "too much: {error}");
+        assert_eq!(copy.run(&format!("extend IMAGE {bytes}")).exit, 0);
+        // The whole write is tried first.
+        let answer = copy.feed("write IMAGE 300 --allowance 1", &data(len, 1));
+        assert!(answer.text.starts_with("stopped after 1 of "), "{}", answer.error);
+        assert_eq!(copy.run("check IMAGE").exit, 3);
+    }
+}
+
+/// The refcount table is full.
 #[test]
 fn where_the_file_cannot_be_lengthened_enough() {
-    let mut made = made(3, 9, 250, 1 << 20);
-    let copy = Copy::with(&made.image, "room-counts");
-    let answer = copy.feed("write IMAGE 0", &data(200_000, 1));
-    assert!(answer.error.contains("The stored counts end at cluster 256, "), "{}", answer.error);
+    let mut made = made_at(6, 3, 9, 4030, 1 << 22);
+    let copy = Copy::with(&made.image, "room-table");
+    let answer = copy.feed("write IMAGE 0", &data(3 << 20, 1));
+    assert!(answer.error.contains("The stored counts end at cluster 4032, "), "{}", answer.error);
     assert!(answer.error.contains("`qemu-img convert "), "{}", answer.error);
-    // Every count past the end is taken.
-    (250..256).for_each(|cluster| made.image[made.block_at + 2 * cluster + 1] = 1);
+    // Every count past the end is taken, and one block more is not enough.
+    (4030..4032).for_each(|cluster| put_count(&mut made.image[made.block_at..], 6, cluster, 1));
     let copy = Copy::with(&made.image, "room-taken");
-    let answer = copy.feed("write IMAGE 0", &data(125_000, 1));
-    assert!(answer.error.contains("The stored counts end at cluster 256, "), "{}", answer.error);
+    let answer = copy.feed("write IMAGE 0", &data(2_050_000, 1));
+    assert!(answer.error.contains("The stored counts end at cluster 4032, "), "{}", answer.error);
 }
 
 /// What is said of a write of that length, without its bytes.

@@ -294,7 +294,8 @@ fn damaged(name: &str, made: &Made, first: &str, others: &[&str], json: &[&str])
     others.iter().for_each(|other| assert!(text.contains(other), "{other}: {text}"));
     let members = copy.run("check IMAGE --json").text;
     json.iter().for_each(|member| assert!(members.contains(member), "{member}: {members}"));
-    for line in ["write IMAGE 0", "discard IMAGE 0 512", "repair IMAGE"] {
+    let extend = format!("extend IMAGE {}", made.bytes.len());
+    for line in ["write IMAGE 0", "discard IMAGE 0 512", "repair IMAGE", &extend] {
         let answer = copy.feed(line, b"x");
         assert!(answer.exit == 2 && answer.error.contains(first.trim_end()), "{}", answer.error);
     }

@@ -69,6 +69,10 @@ fn a_change_whose_report_cannot_be_written() {
         ("discard 0 512 --json", "finished, only its report could not be written: discarded 512"),
         ("repair", "finished, only its report could not be written: repaired: 1 counts set"),
         ("repair --allowance 0", "stopped, only its report could not be written: stopped after 0"),
+        (
+            "extend 16k",
+            "finished, only its report could not be written: extended from 8192 to 16384",
+        ),
     ] {
         let copy = Copy::with(&leaking(), "full-write");
         let ended = run(&copy, line, Stdio::null(), full());
@@ -116,7 +120,7 @@ fn too_little_memory() {
     const LENGTH: u64 = 1 << 30;
     let copy = Copy::with(&with_clusters(16, 4, 1 << 30), "memory");
     File::options().write(true).open(&copy.path).unwrap().set_len(LENGTH).unwrap();
-    for words in ["check", "map --json", "discard 0 64k"] {
+    for words in ["check", "map --json", "discard 0 64k", "extend 1G"] {
         let (name, rest) = words.split_once(' ').unwrap_or((words, ""));
         let line = format!("ulimit -v 500000; exec \"$0\" {name} \"$1\" {rest}");
         let mut shell = Command::new("sh");

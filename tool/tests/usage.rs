@@ -5,12 +5,14 @@ mod common;
 use common::qstore;
 
 /// What is wrong, for each line.
-const WRONG: [(&[&str], &str); 5] = [
+const WRONG: [(&[&str], &str); 7] = [
     (&["frob"], "there is no command 'frob'"),
     (&["check"], "check: IMAGE is missing"),
     (&["check", "a", "--frob"], "there is no option '--frob' here"),
     (&["read", "a", "ten", "1"], "read: OFFSET: 'ten' is no number"),
     (&["write", "a", "0", "1"], "write: '1' is one operand too many"),
+    (&["extend", "a"], "extend: BYTES is missing"),
+    (&["extend", "a", "+1M"], "extend: BYTES: '+1M' is no number"),
 ];
 
 #[test]

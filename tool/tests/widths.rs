@@ -240,8 +240,8 @@ fn how_many_blocks_are_needed() {
         let error = long(covered + 1).run("check IMAGE").error;
         let words = format!("entry 1 is 0, so clusters {covered} and up have no stored count");
         assert!(error.contains("refused (10)") && error.contains(&words), "{error}");
-        let words = format!("`truncate -s {} ", 512 * covered);
-        assert!(error.contains(&words), "{error}");
+        assert!(error.contains("`qstore extend "), "{error}");
+        assert!(error.contains(&format!(" {}`", 512 * (covered + 1))), "{error}");
         let error = long(64 * covered + 1).run("check IMAGE").error;
         let words = format!(
             "has 64 entries, and 65 are needed for a file of {} ",
@@ -261,7 +261,7 @@ fn how_many_blocks_are_needed() {
     }
 }
 
-/// Room ends where the counts end.
+/// Without a new block room ends where the counts end.
 #[test]
 fn room_by_width() {
     for (order, covered) in [(0, 4096), (2, 1024), (6, 64)] {
@@ -272,8 +272,9 @@ fn room_by_width() {
         let fits = most - most.div_ceil(65);
         let copy = Copy::with(&image, "width-room");
         let error = copy.feed("write IMAGE 0", &data(512 * (fits + 1), 1)).error;
-        let words = format!("The stored counts end at cluster {covered}, ");
+        let words = format!("The stored counts end at cluster {covered}. ");
         assert!(error.contains("refused (14)") && error.contains(&words), "{error}");
+        assert!(error.contains("`qstore extend "), "{error}");
         let error = copy.feed("write IMAGE 0", &data(512 * fits, 1)).error;
         let words = format!("`truncate -s +{} ", 512 * (covered - 20));
         assert!(error.contains(&words), "{error}");

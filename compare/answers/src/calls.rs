@@ -49,6 +49,8 @@ macro_rules! calls {
             /// The name of the backing file, a part of the image; empty where there is
             /// no backing file.
             fn backing_name<'a>(&self, image: &'a [u8]) -> Result<&'a [u8], u32>;
+            /// Takes in what was appended to an image of `old` bytes.
+            fn extend(&self, image: &mut [u8], old: u64, allowance: u64) -> $crate::Outcome;
             fn difference(&self, stored: u64, figure: u16) -> i32;
         }
     };
@@ -66,6 +68,9 @@ macro_rules! calls {
             })*
             fn backing_name<'a>(&self, image: &'a [u8]) -> Result<&'a [u8], u32> {
                 backing_name(image)
+            }
+            fn extend(&self, image: &mut [u8], old: u64, allowance: u64) -> $crate::Outcome {
+                extend(image, old, allowance)
             }
             fn difference(&self, stored: u64, figure: u16) -> i32 {
                 difference(stored, figure)

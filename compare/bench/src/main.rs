@@ -1,12 +1,13 @@
 //! Times the proved core and the plain implementation side by side and prints
 //! tables of ratios. An argument chooses one family of cases: check, short,
-//! shared, snapshots, free, read, backed, map, store, long or widths.
+//! shared, snapshots, free, read, backed, map, store, extend, long or widths.
 #![forbid(unsafe_code)]
 
 mod backed;
 mod bench;
 mod check;
 mod damaged;
+mod extend;
 mod free;
 mod long;
 mod map;
@@ -17,7 +18,7 @@ mod widths;
 
 use bench::Bench;
 
-const FAMILIES: [(&str, fn(&Bench)); 11] = [
+const FAMILIES: [(&str, fn(&Bench)); 12] = [
     ("check", check::run),
     ("short", damaged::short),
     ("shared", damaged::shared),
@@ -27,6 +28,7 @@ const FAMILIES: [(&str, fn(&Bench)); 11] = [
     ("backed", backed::run),
     ("map", map::run),
     ("store", store::run),
+    ("extend", extend::run),
     ("long", long::run),
     ("widths", widths::run),
 ];

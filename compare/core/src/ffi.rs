@@ -100,6 +100,8 @@ extern "C" {
         allowance: u64,
         units: *mut u64,
     ) -> u32;
+    pub fn qcow2_extend(image: *mut u8, n: usize, old: u64, allowance: u64, units: *mut u64)
+        -> u32;
     pub fn qcow2_backed_write_steps(
         image: *const u8,
         n: usize,

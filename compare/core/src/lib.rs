@@ -149,6 +149,13 @@ pub fn repair(image: &mut [u8], backing: &[u8], scratch: &mut [u8], allowance: u
     })
 }
 
+/// Takes in what was appended to an image that had `old` bytes, cut after
+/// `allowance` units. No bytes of a backing file are needed.
+pub fn extend(image: &mut [u8], old: u64, allowance: u64) -> Outcome {
+    // SAFETY: see the head of this file.
+    changed(image, |image, n, units| unsafe { ffi::qcow2_extend(image, n, old, allowance, units) })
+}
+
 /// Counts the references into `scratch` and judges the stored counts by them.
 pub fn check(image: &[u8], backing: &[u8], scratch: &mut [u8]) -> Verdict {
     let (mut pad, [mut first, mut second, mut third]) = (0, [0; 3]);

@@ -13,6 +13,7 @@ const ALL: u64 = u64::MAX;
 /// What the numbers hold before a call; no call gives it.
 const HELD: u64 = 0xC3C3_C3C3_C3C3_C3C3;
 const CLUSTERS: usize = 16;
+const OLD: u64 = 512 * CLUSTERS as u64;
 /// The scratch that a check needs.
 const SCRATCH: usize = 2 * CLUSTERS;
 /// Numbers that are there to be lent.
@@ -33,6 +34,7 @@ enum Call {
     Write { offset: u64, allowance: u64 },
     Discard { cluster: u64, allowance: u64 },
     Repair { scratch: usize, allowance: u64 },
+    Extend { old: u64, allowance: u64 },
     WriteSteps { offset: u64, len: u64, room: usize },
     DiscardSteps { cluster: u64, room: usize },
     RepairSteps { scratch: usize, room: usize },
@@ -89,6 +91,7 @@ impl Lent {
                 Call::Repair { scratch, allowance } => {
                     over!(qcow2_backed_repair, figures, scratch, allowance, x)
                 }
+                Call::Extend { old, allowance } => ffi::qcow2_extend(image, n, old, allowance, x),
                 Call::WriteSteps { offset, len, room } => {
                     over!(qcow2_backed_write_steps, offset, len, rows, room, x)
                 }
@@ -221,6 +224,33 @@ fn units() {
     assert_eq!(repair(&leaking, ALL), (0, vec![1]));
     assert_eq!(repair(&leaking, 0), (ffi::STOPPED, vec![0]));
     assert_eq!(repair(&made, ALL), (0, vec![0]));
+}
+
+/// The sound image with so many clusters.
+fn longer(clusters: usize) -> Made {
+    let mut made = sound();
+    made.bytes.resize(512 * clusters, 0);
+    made
+}
+
+#[test]
+fn units_of_extending() {
+    let extend = |made: &Made, old, allowance| answer(made, Call::Extend { old, allowance });
+    let made = longer(600);
+    assert_eq!(extend(&made, OLD, ALL), (0, vec![2 * 513]));
+    assert_eq!(extend(&made, OLD, 1 << 32), (0, vec![2 * 513]));
+    assert_eq!(extend(&made, OLD, 1025), (ffi::STOPPED, vec![1025]));
+    assert_eq!(extend(&made, OLD, 0), (ffi::STOPPED, vec![0]));
+    assert_eq!(extend(&longer(256), OLD, 0), (0, vec![0]));
+    assert_eq!(extend(&sound(), OLD, 0), (0, vec![0]));
+    for old in [0, 511, 8193, 600 * 513, ALL] {
+        refused(&made, Call::Extend { old, allowance: ALL }, 10);
+    }
+    let mut named = longer(600);
+    named.set_name(104, 1024);
+    refused(&named, Call::Extend { old: OLD, allowance: ALL }, 19);
+    named.set_name(104, 7);
+    assert_eq!(extend(&named, OLD, 7), (ffi::STOPPED, vec![7]));
 }
 
 #[test]
@@ -398,6 +428,10 @@ fn refused_headers() {
             let mut made = sound();
             if break_header(&mut made, number, &mut rng) {
                 refused_by_all(&made, number);
+                // Where the name is good it needs no bytes of a backing file.
+                if number != 19 {
+                    refused(&made, Call::Extend { old: OLD, allowance: ALL }, number);
+                }
             }
         }
     }

@@ -7,6 +7,7 @@ use std::thread;
 use answers::Outcome;
 use made::full::{self, Layout, Shape};
 use made::image::{Kind, Made};
+use made::longer;
 use qcow2_core::Core;
 
 const STACK: usize = 64 << 10;
@@ -61,6 +62,20 @@ fn each_call(made: Made, guest: u64) {
     assert_eq!(side.discard(&mut image, guest, ALL), Outcome::Finished(2));
     side.repair(&mut image, &mut scratch, ALL);
     side.check(&image, &mut scratch);
+}
+
+#[test]
+fn many_blocks() {
+    for (bits, order, length) in [(9, 0, 24 << 20), (9, 6, 6 << 20), (16, 6, 513 << 20)] {
+        let earlier = longer::empty(bits, order, length);
+        let mut longer = longer::with_zeros(earlier, length);
+        let (old, new) = (longer.old as u64, longer.new_blocks().len());
+        assert!(new > 0);
+        on_little_stack(move || {
+            let outcome = qcow2_core::extend(&mut longer.made.bytes, old, ALL);
+            assert_eq!(outcome, Outcome::Finished(((new << bits) + new) as u64));
+        });
+    }
 }
 
 #[test]

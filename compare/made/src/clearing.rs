@@ -82,6 +82,7 @@ pub(crate) fn call(side: Over, image: &[u8], request: &Request) -> (Outcome, Vec
             side.write(&mut image, offset, data, allowance)
         }
         Request::Discard { cluster, allowance } => side.discard(&mut image, cluster, allowance),
+        Request::Extend { old, allowance } => side.calls.extend(&mut image, old, allowance),
         Request::Repair { scratch: len, allowance } => {
             scratch = vec![0x5A; len];
             side.repair(&mut image, &mut scratch, allowance)

@@ -149,7 +149,8 @@ pub fn with_allowance(request: &Request, allowance: u64) -> Request {
     match &mut request {
         Request::Write { allowance: old, .. }
         | Request::Discard { allowance: old, .. }
-        | Request::Repair { allowance: old, .. } => *old = allowance,
+        | Request::Repair { allowance: old, .. }
+        | Request::Extend { allowance: old, .. } => *old = allowance,
         _ => {}
     }
     request

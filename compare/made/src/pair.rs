@@ -114,6 +114,9 @@ impl<'c> Pair<'c> {
             }
             Request::Discard { cluster, allowance } => self
                 .answers(request, |side, image| side.discard(image.lent_mut(), cluster, allowance)),
+            Request::Extend { old, allowance } => self.answers(request, |side, image| {
+                side.calls.extend(image.lent_mut(), old, allowance)
+            }),
             Request::Write { offset, ref data, allowance } => {
                 let lent = Guarded::of(data);
                 let outcome = self.answers(request, |side, image| {

@@ -45,6 +45,11 @@ pub enum Request {
         scratch: usize,
         allowance: u64,
     },
+    /// Of an image that had `old` bytes.
+    Extend {
+        old: u64,
+        allowance: u64,
+    },
     /// With room for this many numbers, as the next two.
     WriteSteps {
         offset: u64,
@@ -96,6 +101,9 @@ impl fmt::Debug for Request {
             Request::Repair { scratch, allowance } => {
                 write!(to, " with scratch of {scratch}, allowance {allowance}")
             }
+            Request::Extend { old, allowance } => {
+                write!(to, " from {old}, allowance {allowance}")
+            }
             Request::Check { scratch } => write!(to, " with scratch of {scratch}"),
         }
     }
@@ -132,6 +140,7 @@ impl Request {
             Request::Write { .. } => "write",
             Request::Discard { .. } => "discard",
             Request::Repair { .. } => "repair",
+            Request::Extend { .. } => "extend",
             Request::WriteSteps { .. } => "write_steps",
             Request::DiscardSteps { .. } => "discard_steps",
             Request::RepairSteps { .. } => "repair_steps",

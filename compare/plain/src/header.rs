@@ -78,6 +78,21 @@ pub(crate) struct Header<'b> {
 impl<'b> Header<'b> {
     /// The accepted header, or the first of its numbers that applies.
     pub fn judge(image: &[u8], backing: &'b [u8]) -> Result<Header<'b>, u32> {
+        let header = Header::placed(image)?;
+        if !header.blocks_are_good(image) {
+            return Err(10);
+        }
+        let backing = match backing_name(image, header.cluster_bits)? {
+            None => &[],
+            Some(_) if backing.is_empty() => return Err(19),
+            Some(_) => backing,
+        };
+        let snapshots = Snapshots::judge(image, header.cluster_bits)?;
+        Ok(Header { snapshots, backing, ..header })
+    }
+
+    /// The same as far as the places of the tables: numbers 1 to 8, 18 and 9.
+    pub fn placed(image: &[u8]) -> Result<Header<'static>, u32> {
         let (version, cluster_bits) = shape(image)?;
         let order = features(image, version)?;
         let size = be64(image, 24);
@@ -91,17 +106,7 @@ impl<'b> Header<'b> {
         if !size.is_multiple_of(SECTOR) {
             return Err(18);
         }
-        let header = tables(image, (version, cluster_bits, order), size, l1_size)?;
-        if !header.blocks_are_good(image) {
-            return Err(10);
-        }
-        let backing = match backing_name(image, cluster_bits)? {
-            None => &[],
-            Some(_) if backing.is_empty() => return Err(19),
-            Some(_) => backing,
-        };
-        let snapshots = Snapshots::judge(image, cluster_bits, be64(image, 64), be32(image, 60))?;
-        Ok(Header { snapshots, backing, ..header })
+        tables(image, (version, cluster_bits, order), size, l1_size)
     }
 
     /// Cluster size (C).
@@ -126,9 +131,18 @@ impl<'b> Header<'b> {
         disk.size.div_ceil(1 << self.cluster_bits)
     }
 
+    /// The entries of the refcount table.
+    pub fn table<'i>(&self, image: &'i [u8]) -> &'i [[u8; 8]] {
+        image[self.table_at..][..self.table_clusters << self.cluster_bits].as_chunks().0
+    }
+
     fn blocks_are_good(&self, image: &[u8]) -> bool {
-        let table = &image[self.table_at..][..self.table_clusters << self.cluster_bits];
-        let (used, rest) = table.split_at(8 * self.blocks);
+        let (used, rest) = self.table(image).split_at(self.blocks);
+        self.name_blocks(used) && are_zero(rest)
+    }
+
+    /// Does each entry name a cluster of the image beside the first?
+    pub fn name_blocks(&self, entries: &[[u8; 8]]) -> bool {
         let others = self.clusters as u64 - 1;
         // Rotated, the place is a cluster number if it is a multiple of the
         // cluster size, and greater than any such number if it is not.
@@ -136,7 +150,7 @@ impl<'b> Header<'b> {
             let place = u64::from_be_bytes(*entry);
             place.rotate_right(self.cluster_bits).wrapping_sub(1) < others
         };
-        used.as_chunks().0.iter().all(good) && all_zero(rest)
+        entries.iter().all(good)
     }
 }
 
@@ -233,8 +247,8 @@ pub(crate) fn backing_name(image: &[u8], cluster_bits: u32) -> Result<Option<Ran
     Ok(Some(at as usize..(at + len) as usize))
 }
 
-fn all_zero(bytes: &[u8]) -> bool {
-    let (groups, rest) = bytes.as_chunks::<512>();
+pub(crate) fn are_zero(entries: &[[u8; 8]]) -> bool {
+    let (groups, rest) = entries.as_flattened().as_chunks::<512>();
     groups.iter().all(|group| zero(group)) && zero(rest)
 }
 

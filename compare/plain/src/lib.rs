@@ -7,6 +7,7 @@ mod check;
 mod compare;
 mod counts;
 mod entries;
+mod extend;
 mod header;
 mod list;
 mod marks;
@@ -24,6 +25,7 @@ mod words;
 
 pub use answers::{Found, Geometry, Outcome, Over, Run, Step, Verdict};
 pub use check::{check, difference, repair};
+pub use extend::extend;
 pub use reading::{lookup, read, read_snapshot, runs, translate};
 pub use steps::{backing_name, discard_steps, geometry, repair_steps, write_steps};
 pub use storing::{discard, write};

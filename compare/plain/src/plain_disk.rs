@@ -173,6 +173,12 @@ impl<'c> Series<'c> {
         self.hold(now, false)
     }
 
+    /// The image was made longer, and what was appended is taken in: all reads agree
+    /// with those of the earlier one.
+    pub fn goes_on(&self, image: &[u8]) -> Result<(), String> {
+        self.hold(image, false)
+    }
+
     fn run(&self, image: &mut [u8], call: Call, allowance: u64) -> Outcome {
         match call {
             Call::Write { offset, data } => self.side.write(image, offset, data, allowance),

@@ -15,8 +15,9 @@ pub(crate) struct Snapshots {
 }
 
 impl Snapshots {
-    /// The `count` snapshots whose table starts at `at`.
-    pub fn judge(image: &[u8], cluster_bits: u32, at: u64, count: u32) -> Result<Snapshots, u32> {
+    /// Those that the header tells of.
+    pub fn judge(image: &[u8], cluster_bits: u32) -> Result<Snapshots, u32> {
+        let (at, count) = (be64(image, 64), be32(image, 60));
         if count == 0 {
             return Ok(Snapshots::default());
         }

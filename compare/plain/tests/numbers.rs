@@ -25,6 +25,11 @@ fn all_refuse(made: &mut Made, number: u32) {
     assert_eq!(side.discard(image, u64::MAX, 9), Outcome::Refused(number));
     assert_eq!(side.check(image, &mut scratch[..0]), Verdict::Refused(number));
     assert_eq!(side.repair(image, &mut scratch, 9), Outcome::Refused(number));
+    // A good name is enough there.
+    if number != 19 {
+        let n = image.len() as u64;
+        assert_eq!(side.calls.extend(image, n, 9), Outcome::Refused(number));
+    }
     assert!(*image == before && scratch == [7; 3] && out == [7; 3] && numbers == [7; 3]);
 }
 

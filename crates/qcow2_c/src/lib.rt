@@ -14,6 +14,7 @@ ghost use Rattle.qcow2_backing.specs.Backing.{shownLength};
 ghost use Rattle.qcow2_spec.specs.Guest.{translate, readNumber, readInto, inPlace};
 ghost use Rattle.qcow2_spec.specs.Runs.{foundCode, foundHost, listRuns, runsInto};
 ghost use Rattle.qcow2_spec.specs.Store.{writePlan, discardPlan};
+ghost use Rattle.qcow2_longer.specs.Extend.{extendPlan};
 ghost use Rattle.qcow2_spec.specs.References.{scratchLeft};
 ghost use Rattle.qcow2_spec.specs.Check.{check, repairPlan};
 ghost use Rattle.qcow2_spec.specs.Steps.{listSteps, stepsInto};
@@ -123,6 +124,14 @@ pub extern "C" fn qcow2_backed_repair(
     ensures { λ r. ⌜ ((r ≡ outcomeCode (outcome (repairPlan (now (backing .entry)) (now (image .entry)) (length (now (scratch .entry)))) allowance)) × (now (units .exit) ≡ outcomeUnits (outcome (repairPlan (now (backing .entry)) (now (image .entry)) (length (now (scratch .entry)))) allowance))) × ((now (image .exit) ≡ after (repairPlan (now (backing .entry)) (now (image .entry)) (length (now (scratch .entry)))) allowance (now (image .entry))) × (now (scratch .exit) ≡ scratchLeft (now (backing .entry)) (now (image .entry)) (now (scratch .entry)))) ⌝ }
 {
     let o = qcow2::repair(image, backing, scratch, allowance as usize);
+    qcow2_codes::put_outcome(o, units)
+}
+
+#[no_mangle]
+pub extern "C" fn qcow2_extend(image: &mut [u8], old: u64, allowance: u64, units: &mut u64) -> u32
+    ensures { λ r. ⌜ ((r ≡ outcomeCode (outcome (extendPlan (now (image .entry)) old) allowance)) × (now (units .exit) ≡ outcomeUnits (outcome (extendPlan (now (image .entry)) old) allowance))) × (now (image .exit) ≡ after (extendPlan (now (image .entry)) old) allowance (now (image .entry))) ⌝ }
+{
+    let o = qcow2_extend::extend(image, old, allowance as usize);
     qcow2_codes::put_outcome(o, units)
 }
 

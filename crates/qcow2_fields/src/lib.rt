@@ -69,7 +69,7 @@ fn order_of(image: &[u8]) -> u32
 }
 
 // The refcount blocks that an image of n bytes needs.
-fn block_count(n: u64, bits: u32, order: u32) -> u64
+pub fn block_count(n: u64, bits: u32, order: u32) -> u64
     requires { ⌜ ((order ≤ bits) × (bits ≤ mostBits)) × (n ≤ mostLength) ⌝ }
     ensures { λ r. ⌜ r ≡ ceilDiv (n / 2 ^ bits) (2 ^ bits * 8 / 2 ^ order) ⌝ }
 {

@@ -2,6 +2,7 @@ pub mod Numbers
 pub mod Facts
 pub mod Good
 pub mod Open
+pub mod Fields
 pub mod Geo
 pub mod Kept
 pub mod Refers

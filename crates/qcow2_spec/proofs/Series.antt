@@ -53,20 +53,20 @@ record Good (backing start s : List ℕ) : Type 0 where
   one-reach : (t : ℕ) → t < roots start → reach s t ≡ reach start t
   shots : (k y : ℕ) → suc k < roots start → y < reach start (suc k) → guestByte backing s (suc k) y ≡ guestByte backing start (suc k) y
 
-each-same : (f g : ℕ → ℕ) (k x : ℕ) → ((y : ℕ) → x ≤ y → y < x + k → f y ≡ g y) → each f x k ≡ each g x k
+pub each-same : (f g : ℕ → ℕ) (k x : ℕ) → ((y : ℕ) → x ≤ y → y < x + k → f y ≡ g y) → each f x k ≡ each g x k
 each-same f g zero x h = refl
 each-same f g (suc k) x h = ap₂ (λ (y : ℕ) (l : List ℕ). y ∷ l) (h x (le-refl x) (omega arith)) (each-same f g k (suc x) (λ y a b. h y (omega arith) (omega arith)))
 
-reach-0 : (s : List ℕ) → reach s 0 ≡ diskSize s
+pub reach-0 : (s : List ℕ) → reach s 0 ≡ diskSize s
 unfolding reach
 reach-0 s = refl
 
-test-same : (s t : List ℕ) (u x len : ℕ) → roots s ≡ roots t → reach s u ≡ reach t u → outside s u x len ≡ outside t u x len
+pub test-same : (s t : List ℕ) (u x len : ℕ) → roots s ≡ roots t → reach s u ≡ reach t u → outside s u x len ≡ outside t u x len
 unfolding outside
 test-same s t u x len e r = rw (e, r) refl
 
 -- there is no such L1 table
-no-root : (s : List ℕ) (t x len : ℕ) → roots s ≤ t → outside s t x len ≡ true
+pub no-root : (s : List ℕ) (t x len : ℕ) → roots s ≤ t → outside s t x len ≡ true
 unfolding outside
 no-root s t x len h = rw (le-leb (roots s) t h) refl
 
@@ -288,7 +288,7 @@ smooth backing start s disk (c ∷ cs) h =
     (r .0, subst (λ (t : List ℕ). Step backing start s disk c t (r .0)) e (r .1), smooth backing start (left backing s c) (r .0) cs (subst (λ (t : List ℕ). RoughHolds backing start t (r .0) cs) e (r .2)))
 
 -- a healthy check is one of an accepted image
-healthy-check : (backing s : List ℕ) → Healthy (check backing s (2 * clusters s)) → (judge backing s ≡ 0) × Healthy (verdict s)
+pub healthy-check : (backing s : List ℕ) → Healthy (check backing s (2 * clusters s)) → (judge backing s ≡ 0) × Healthy (verdict s)
 unfolding check checkedWith Healthy
 healthy-check backing s h = go (judge backing s) h
   where

@@ -153,7 +153,7 @@ all-run p (suc k) i h t a b = go (ℕ-discrete t i) (all-run p k (suc i) (and-tr
     go (yes e) r = rw e (and-true (p i) _ h .0)
     go (no d) r = r (omega arith) (omega arith)
 
-run-all : (p : ℕ → Bool) (k i : ℕ) → ((t : ℕ) → i ≤ t → t < i + k → p t ≡ true) → all p (run i k) ≡ true
+pub run-all : (p : ℕ → Bool) (k i : ℕ) → ((t : ℕ) → i ≤ t → t < i + k → p t ≡ true) → all p (run i k) ≡ true
 unfolding run
 run-all p zero i h = refl
 run-all p (suc k) i h = rw (h i (le-refl i) (omega arith)) (run-all p k (suc i) (λ t a b. h t (omega arith) (omega arith)))

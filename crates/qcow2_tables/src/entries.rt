@@ -22,7 +22,7 @@ fn names_block(e: u64, n: u64, bits: u32) -> bool
 }
 
 // Whether each of the first entries of a table names a block.
-fn all_named(table: &[u8], count: usize, n: u64, bits: u32) -> bool
+pub fn all_named(table: &[u8], count: usize, n: u64, bits: u32) -> bool
     requires { ⌜ (((9 ≤ bits) × (bits ≤ mostBits)) × (2 ^ bits ≤ n)) × (8 * count ≤ length (now table)) ⌝ }
     ensures { λ r. ⌜ r ≡ all (goodBlock (2 ^ bits) n) (entries count (now (table .entry))) ⌝ }
 {

@@ -1,10 +1,11 @@
 //! What the commands that change an image have in common.
 
+use std::io;
 use std::path::{Path, PathBuf};
 
 use qcow2_core::Outcome;
 
-use super::check::check;
+use super::check::{check, Checked};
 use crate::autoclear;
 use crate::backing::Backing;
 use crate::call::Call;
@@ -19,14 +20,19 @@ use crate::sentences::{Request, Subject};
 /// For writes and discards: only sound and leaking images, since the promise
 /// about power cuts is for them.
 pub fn open_usable<D: Disk>(image: ImageFile<D>) -> Result<(PathBuf, Ordered<D>), Failure> {
-    let checked = check(&image)?;
-    if !checked.verdict.is_usable() {
-        let (what, json) = checked.words(&image.bytes);
-        let advice = findings::advice(&checked.layout, &image.bytes, checked.verdict);
-        return Err(Failure::Damaged { what, json, advice: advice.into() });
-    }
+    is_usable(&check(&image)?, &image.bytes)?;
     let ImageFile { path, file, bytes, backing, .. } = image;
     Ok((path, ordered(file, bytes, backing)?))
+}
+
+/// Is the checked image sound or leaking, or what is the damage?
+pub fn is_usable(checked: &Checked, image: &[u8]) -> Result<(), Failure> {
+    if checked.verdict.is_usable() {
+        return Ok(());
+    }
+    let (what, json) = checked.words(image);
+    let advice = findings::advice(&checked.layout, image, checked.verdict);
+    Err(Failure::Damaged { what, json, advice: advice.into() })
 }
 
 /// An image that a check has accepted.
@@ -89,13 +95,13 @@ pub fn run<'a, D: Disk>(
         }
         progress.at(spent);
     }
-    in_step(ordered, spent)?;
+    in_step(ordered.is_in_step(), spent)?;
     Ok((spent, finished))
 }
 
-/// The last look at memory and file.
-pub fn in_step<D: Disk>(ordered: &Ordered<D>, spent: u64) -> Result<(), Failure> {
-    match ordered.is_in_step() {
+/// The last look at memory and file: whether both hold the same.
+pub fn in_step(same: io::Result<bool>, spent: u64) -> Result<(), Failure> {
+    match same {
         Ok(true) => Ok(()),
         Ok(false) => Err(unexpected(spent, 0)),
         Err(error) => Err(Failure::Other(format!(
@@ -119,7 +125,7 @@ pub fn broken_off(spent: u64, fault: Fault) -> Failure {
     }
 }
 
-fn unexpected(spent: u64, number: u64) -> Failure {
+pub fn unexpected(spent: u64, number: u64) -> Failure {
     Failure::Other(format!(
         "broken off after {spent} units: the core answered what no rule allows ({number}). Check \
          the image, and report this."

@@ -3,6 +3,7 @@
 pub mod change;
 mod check;
 pub mod discard;
+pub mod extend;
 mod info;
 mod map;
 mod read;
@@ -14,13 +15,13 @@ use std::io::stdin;
 
 use crate::args::{Command, Options};
 use crate::backing::{Backing, Given, Watch};
-use crate::image_file::{notes_unread, Access, ImageFile};
+use crate::image_file::{notes_unread, Access, ImageFile, View};
 use crate::report::{Answer, Failure};
 
 /// Runs the command: what is to be noted of the conditions, and its answer.
 pub fn run(options: &Options) -> (Vec<String>, Result<Answer, Failure>) {
     let given = options.backing.as_deref().map(|path| Given { path, as_raw: options.as_raw });
-    match ImageFile::open(&options.image, access(options), options.as_if_mended, given) {
+    match ImageFile::open(&options.image, access(options), view(options), given) {
         Ok(mut image) => {
             let (mut notes, watch) = (std::mem::take(&mut image.notes), image.backing.watch());
             let answer = answer(options, image);
@@ -29,7 +30,7 @@ pub fn run(options: &Options) -> (Vec<String>, Result<Answer, Failure>) {
         }
         // Opening judges only files that are too long.
         Err(Failure::Refused(refusal)) => {
-            let notes = notes_unread(access(options), options.as_if_mended);
+            let notes = notes_unread(access(options), view(options));
             if options.command != Command::Info {
                 return (notes, Err(Failure::Refused(refusal)));
             }
@@ -62,6 +63,14 @@ fn access(options: &Options) -> Access {
     }
 }
 
+fn view(options: &Options) -> View {
+    match options.command {
+        Command::Extend { bytes, .. } => View::Lengthened(bytes),
+        _ if options.as_if_mended => View::AsIfMended,
+        _ => View::AsItIs,
+    }
+}
+
 fn answer(options: &Options, image: ImageFile) -> Result<Answer, Failure> {
     let report = match &options.command {
         Command::Map => return Ok(Answer::Long(Box::new(map::Map::of(image)?))),
@@ -81,6 +90,7 @@ fn answer(options: &Options, image: ImageFile) -> Result<Answer, Failure> {
         &Command::Discard { offset, length, allowance } => {
             discard::run(image, offset, length, allowance)
         }
+        &Command::Extend { bytes, allowance } => extend::run(image, bytes, allowance),
     };
     report.map(Answer::Whole)
 }

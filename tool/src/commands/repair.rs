@@ -36,7 +36,7 @@ pub fn run<D: Disk>(image: ImageFile<D>, allowance: u64, force: bool) -> Result<
         }
         Err(fault) => return Err(change::broken_off(spent, fault)),
     };
-    change::in_step(&ordered, units)?;
+    change::in_step(ordered.is_in_step(), units)?;
     let text = match (finished, units) {
         (true, 0) => "sound, nothing to repair\n".into(),
         (true, _) => {

@@ -2,7 +2,7 @@
 
 use std::collections::HashSet;
 
-use super::{tail, Remedy, Subject};
+use super::{longer, tail, Remedy, Subject};
 use crate::fields::{be64, Fields, MAX_IMAGE};
 use crate::snapshots;
 
@@ -39,7 +39,7 @@ pub fn sentence(subject: &Subject) -> (String, Remedy) {
 }
 
 /// The disk is read without the counts.
-fn new_counts() -> Remedy {
+pub fn new_counts() -> Remedy {
     let text = "The new one gets counts of its own; the disk's bytes do not depend on them.";
     Remedy::NewImage(text.into())
 }
@@ -147,6 +147,14 @@ impl<'a> Table<'a> {
             index * self.per_block,
             self.clusters
         );
+        if longer::is_taken_in(self.subject) {
+            let text = format!(
+                "Nothing in the image refers to them, so they were appended. Take them in, which \
+                 changes no guest byte: {}.",
+                self.subject.commands().extend(self.subject.length)
+            );
+            return (what, Remedy::InPlace(text));
+        }
         let end = index * self.per_block * self.cluster;
         let rest_is_zero = self.entries().skip(index as usize).all(|entry| entry.1 == 0);
         if index == 0 || !rest_is_zero || !tail::is_unused(self.subject.bytes, end) {

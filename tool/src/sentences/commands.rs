@@ -57,6 +57,8 @@ pub struct Commands {
     new: String,
     /// Both as qemu's options, where the image is over a backing file.
     over: Option<[String; 2]>,
+    /// How qstore is told of that file.
+    beneath: String,
 }
 
 impl Commands {
@@ -66,8 +68,14 @@ impl Commands {
         let text = |path: &Path| path.to_str().unwrap_or("IMAGE").to_owned();
         let (image, backing) = (text(path), backing.map(text));
         let new = new_name(&image);
+        let beneath = backing.as_deref().map(|file| format!(" --backing {}", word(file)));
         let over = backing.map(|backing| [options(&image, Some(&backing)), options(&new, None)]);
-        Commands { image: word(&image), new: word(&new), over }
+        Commands {
+            image: word(&image),
+            new: word(&new),
+            over,
+            beneath: beneath.unwrap_or_default(),
+        }
     }
 
     /// How qemu is told what the image is, and which it is.
@@ -118,6 +126,11 @@ impl Commands {
 
     pub fn check(&self) -> String {
         format!("`qstore check {}`", self.image)
+    }
+
+    /// Never shortens.
+    pub fn extend(&self, bytes: u64) -> String {
+        format!("`qstore extend {} {bytes}{}`", self.image, self.beneath)
     }
 
     /// A copy as a new file, of whole clusters and with room. All is one command:

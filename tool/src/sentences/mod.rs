@@ -9,6 +9,7 @@ mod features;
 pub mod format;
 mod header;
 mod held;
+mod longer;
 mod qemu;
 pub mod request;
 mod room;
@@ -52,6 +53,10 @@ pub enum Request<'a> {
     },
     Discard {
         cluster: u64,
+    },
+    /// To so many bytes of the file.
+    Extend {
+        bytes: u64,
     },
     /// A read of the snapshot that a word names.
     Snapshot {
@@ -104,6 +109,9 @@ pub fn refusal(number: u32, subject: &Subject, request: Request) -> Refusal {
 
 /// What is wrong and what can be done.
 pub fn sentence(number: u32, subject: &Subject, request: Request) -> Sentence {
+    if let (5 | 9 | 10, Request::Extend { bytes }) = (number, request) {
+        return Sentence::new(number, longer::sentence(number, subject, bytes));
+    }
     let words = match number {
         1..=5 => header::shape(number, subject),
         6 | 7 => features::sentence(number, subject),
@@ -201,6 +209,8 @@ mod tests {
             Request::Write { offset: u64::MAX, length: u64::MAX, whole: true },
             Request::Write { offset: 0, length: 1 << 30, whole: false },
             Request::Discard { cluster: u64::MAX },
+            Request::Extend { bytes: u64::MAX },
+            Request::Extend { bytes: 1 << 30 },
             Request::Snapshot { word: OsStr::new("a"), offset: u64::MAX, length: u64::MAX },
         ];
         let long = vec![0xFF; 1024];

@@ -36,7 +36,7 @@ fn too_short() -> (String, Remedy) {
 /// Which guest bytes were asked for.
 pub fn place(layout: &Layout, request: Request) -> String {
     match request {
-        Request::Look => "the disk".into(),
+        Request::Look | Request::Extend { .. } => "the disk".into(),
         Request::Read { offset, length } | Request::Write { offset, length, whole: true } => {
             format!("{length} bytes at guest offset {offset}")
         }
@@ -57,7 +57,7 @@ pub fn place(layout: &Layout, request: Request) -> String {
 /// The guest clusters of a request, as far as the disk has them.
 pub fn guests(layout: &Layout, request: Request) -> RangeInclusive<u64> {
     let (first, last) = match request {
-        Request::Look => (0, u64::MAX),
+        Request::Look | Request::Extend { .. } => (0, u64::MAX),
         Request::Read { offset, length }
         | Request::Write { offset, length, .. }
         | Request::Snapshot { offset, length, .. } => {

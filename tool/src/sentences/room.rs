@@ -3,7 +3,7 @@
 use std::ops::RangeInclusive;
 
 use super::commands::NEW_CLUSTER;
-use super::{held, Remedy, Request, Subject};
+use super::{held, longer, Remedy, Request, Subject};
 use crate::extents::is_zero;
 use crate::fields::{be64, MAX_IMAGE, PLACE};
 use crate::layout::Layout;
@@ -44,7 +44,15 @@ pub fn sentence(subject: &Subject, request: Request) -> (String, Remedy) {
              room: {}.",
             subject.commands().append(clusters * cluster as u64)
         )),
-        None => past_the_counts(&layout, subject, guests),
+        None => match longer::with_room(&layout, subject.bytes, missing) {
+            Some(bytes) => Remedy::InPlace(format!(
+                "The stored counts end at cluster {}. Make the file longer, with counts for the new \
+                 clusters; the whole write then finds room: {}.",
+                layout.covered(),
+                subject.commands().extend(bytes)
+            )),
+            None => past_the_counts(&layout, subject, guests),
+        },
     };
     (what, remedy)
 }

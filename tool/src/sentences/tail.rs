@@ -128,19 +128,27 @@ fn compressed_end(entry: u64, cluster_bits: u32) -> u64 {
     place / 512 * 512 + 512 * (more + 1)
 }
 
+/// Is there nothing in the image beside its tables that may refer to clusters: no
+/// feature that is not known?
+pub fn is_known(bytes: &[u8]) -> bool {
+    let Some(fields) = Fields::read(bytes) else { return false };
+    // A header_length that was set back hides extensions, if it leaves none in sight.
+    let longer = Fields { header_length: 112, ..fields };
+    let hidden = extensions::are_none(bytes, &fields);
+    fields.incompatible == 0
+        && fields.autoclear == 0
+        && extensions::are_names_alone(bytes, &fields)
+        && (!hidden || extensions::are_names_alone(bytes, &longer))
+}
+
 /// Can what lies from `end` on be cut off without loss? It is zeros, and neither
 /// the tables nor a feature that is not known may refer to it.
 pub fn is_unused(bytes: &[u8], end: u64) -> bool {
-    let Some(fields) = Fields::read(bytes) else { return false };
     let Some(rest) = usize::try_from(end).ok().and_then(|end| bytes.get(end..)) else {
         return false;
     };
-    // A header_length that was set back hides extensions.
-    let longer = Fields { header_length: 112, ..fields };
-    fields.incompatible == 0
-        && fields.autoclear == 0
-        && fields.snapshots == 0
-        && [fields, longer].iter().all(|fields| extensions::are_names_alone(bytes, fields))
+    is_known(bytes)
+        && Fields::read(bytes).is_some_and(|fields| fields.snapshots == 0)
         && rest.iter().all(|&byte| byte == 0)
         && refers_past(bytes, end) == Some(false)
 }

@@ -7,7 +7,7 @@ use std::path::Path;
 use qstore::backing::Backing;
 use qstore::commands::change::open_usable;
 use qstore::disk::Disk;
-use qstore::image_file::{Access, ImageFile};
+use qstore::image_file::{Access, ImageFile, View};
 use qstore::ordered::Ordered;
 use qstore::report::Failure;
 
@@ -68,6 +68,11 @@ impl Disk for Drive {
         Ok(())
     }
 
+    /// See [`Growing`](super::growing::Growing) for a drive that can grow.
+    fn lengthen(&mut self, length: u64) -> io::Result<()> {
+        panic!("made {length} bytes long");
+    }
+
     fn flush(&mut self) -> io::Result<()> {
         self.spend()?;
         if self.deaf != Some(self.flushes) {
@@ -80,7 +85,7 @@ impl Disk for Drive {
 
 /// The image on a drive, as a command that changes it opens it.
 pub fn open<D: Disk>(drive: D) -> Result<ImageFile<D>, Failure> {
-    ImageFile::read(Path::new("drive"), drive, Access::Change, false, None)
+    ImageFile::read(Path::new("drive"), drive, Access::Change, View::AsItIs, None)
 }
 
 /// The same for a write or discard.

@@ -2,6 +2,7 @@
 #![allow(dead_code)]
 
 pub mod drive;
+pub mod growing;
 pub mod kept;
 pub mod kinds;
 pub mod made;

@@ -1,0 +1,4 @@
+pub mod Blocks
+pub mod Makes
+pub mod Found
+pub mod Plans

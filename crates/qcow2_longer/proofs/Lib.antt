@@ -1,0 +1,15 @@
+pub mod Between
+pub mod Fields
+pub mod Stores
+pub mod Made
+pub mod Going
+pub mod Turns
+pub mod Uncut
+pub mod Earlier
+pub mod Same
+pub mod Answers
+pub mod Grown
+pub mod Another
+pub mod Series
+pub mod Numbers
+pub mod Sectors

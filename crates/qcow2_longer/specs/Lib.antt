@@ -1,0 +1,3 @@
+pub mod Extend
+pub mod Longer
+pub mod Numbers

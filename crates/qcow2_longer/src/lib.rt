@@ -1,0 +1,1 @@
+// A longer image, in definitions and laws: there is no code here.
