@@ -14,7 +14,7 @@ pub fn extend(image: &mut [u8], old: u64, allowance: usize) -> Outcome
     if k != 0 {
         return Outcome::Refused(k);
     }
-    let g = qcow2_fields::gather(image);
+    let g = qcow2_headed::gather(image);
     let from = qcow2_fields::block_count(old, g.bits, g.order) as usize;
     let p = making::layout_of(g);
     storing::take_in(image, p, g.version, from, allowance)

@@ -58,7 +58,7 @@ pub fn has_features(image: &[u8]) -> bool
 }
 
 // The width of a count as a power of two.
-fn order_of(image: &[u8]) -> u32
+pub fn order_of(image: &[u8]) -> u32
     requires { ⌜ 512 ≤ length (now image) ⌝ }
     ensures { λ r. ⌜ r ≡ countOrder (now (image .entry)) ⌝ }
 {

@@ -35,13 +35,19 @@ fn mark_of(e: u64) -> u8
     0
 }
 
-// Passes over entries that are not 0, 64 at a time.
+// Passes over entries that are not 0.
 pub fn skip(image: &[u8], table: usize, from: usize, end: usize) -> usize
     requires { ⌜ ((table + 8 * end ≤ length (now image)) × (length (now image) ≤ 4294967296)) × (from ≤ end) ⌝ }
     ensures { λ r. ⌜ (r ≤ end) × (first (unmade (now (image .entry)) table) from (end - from) ≡ first (unmade (now (image .entry)) table) r (end - r)) ⌝ }
 {
-    let k = 8 * end;
-    packed_search::far_any(&image[table..table + k], 6, from, end)
+    let mut i = from;
+    while i < end {
+        if endian::load64(image, table + 8 * i) == 0 {
+            return i;
+        }
+        i += 1;
+    }
+    i
 }
 
 // Marks the len entries at a place, and stops once more than most are 0: what comes after them is of no account then.

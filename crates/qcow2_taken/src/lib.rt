@@ -112,7 +112,7 @@ pub fn extend_number(image: &[u8], old: u64) -> u8
     if k != 0 {
         return k;
     }
-    let g = qcow2_fields::gather(image);
+    let g = qcow2_headed::gather(image);
     let t = longer_number(image, g, old);
     if t != 0 {
         return t;
