@@ -326,6 +326,8 @@ uint32_t qcow2_backed_repair(uint8_t *image, size_t n, const uint8_t *backing, s
  * flushed; with C + 1, in a call after it, its entry too, to be stored and flushed.
  * Where the autoclear field is to be cleared, a call with allowance 1 and a flush
  * come before all that. The bytes of a block may be stored in any order.
+ *
+ * The call keeps up to 32 KiB of marks on its stack; the others keep no such thing.
  */
 uint32_t qcow2_extend(uint8_t *image, size_t n, uint64_t old, uint64_t allowance, uint64_t *units);
 
