@@ -17,6 +17,7 @@ MISFIT = re.compile('was not admitted|has no (field )?`|can be named from here'
 ERROR = re.compile(r'[^\n]*?/target/must-fail/[^/]+/[^/]+/(\S+):\d+:\d+: error: `([^`]*)`: (.*)', re.DOTALL)
 UNPROVED = re.compile(r'fn \w+::(\S+): no proof: .*; `search` does not close (.*)')
 ITEM = re.compile(r'^(?:(?:pub|extern "C"|fn|const|struct|enum|data|record|unfoldable|abbrev) )*([^\W\d][\w-]*)', re.MULTILINE)
+METHOD = re.compile(r'^    (?:pub )?fn (\w+)', re.MULTILINE)
 
 
 def places(log):
@@ -45,23 +46,30 @@ def place_of(path):
     return found[0] if len(found) == 1 else None
 
 
+def item(text):
+    """The function, constant or definition in which a text ends; a method has its type's name before its own."""
+    last = list(ITEM.finditer(text))[-1]
+    methods = METHOD.findall(text[last.end():])
+    return f'{text[last.end():].split()[0]}::{methods[-1]}' if last[1] == 'impl' and methods else last[1]
+
+
 def items(folder, path):
     """The functions, constants and definitions that a wrong program changes; lines that only import are none."""
     found, texts = set(), {}
     for name, old, new in edit_pairs(path):
         before, _, after = (texts.get(name) or (folder / name).read_text()).partition(old)
         texts[name] = before + new + after
-        found.add(f'{name} {ITEM.findall(before + old)[-1]}')
-    return {item for item in found if not item.endswith(' use')}
+        found.add(f'{name} {item(before + old)}')
+    return {changed for changed in found if not changed.endswith(' use')}
 
 
 def functions(folder, path):
     """The functions whose bodies a wrong program changes, as their proofs' folders are named; None where it changes what other
     functions or lemmas see: a definition, a constant or a contract."""
-    changed = [item.split(' ') for item in items(folder, path)]
-    if any('⌜' in old for _, old, _ in edit_pairs(path)) or not all(file.startswith('src/') and name.islower() for file, name in changed):
+    changed = [found.split(' ') for found in items(folder, path)]
+    if any('⌜' in old for _, old, _ in edit_pairs(path)) or not all(file.startswith('src/') and name.split('::')[-1].islower() for file, name in changed):
         return None
-    return {f"{file[len('src/'):-len('.rt')]}/{name}".replace('lib/', '', 1) for file, name in changed}
+    return {f"{file[len('src/'):-len('.rt')]}/{name}".replace('lib/', '', 1).replace('::', '/') for file, name in changed}
 
 
 def proof_of(place):
@@ -93,7 +101,7 @@ def groups(folder):
 def applies(folder, labels):
     """Whether these wrong programs can be one: they change different functions, and each text is there when its turn comes."""
     paths = [folder / f'wrong/{label}.edit' for label in labels]
-    changed = [item for path in paths for item in items(folder, path)]
+    changed = [found for path in paths for found in items(folder, path)]
     try:
         edited(folder, *paths)
     except Fault:

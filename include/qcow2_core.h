@@ -16,6 +16,7 @@
  *     every call on that image. No call changes them. Where the image names no
  *     backing file they are not looked at, whatever they are.
  *   - out, data, scratch: bytes of the caller, with their length.
+ *   - state: QCOW2_CHECK_STATE bytes of the caller, any.
  *   - rows: numbers of 64 bits of the caller, with how many there are.
  *   - host, units, first, second, third, count, cluster_bits, size, clusters: one
  *     number each, stored by every call that takes it, whatever it answers. What
@@ -54,9 +55,9 @@
  *
  * Answers
  *   0 is done: finished, sound, listed, or a host offset, as the call has it.
- *   1 to 999 is a refusal: the bytes of image, out and scratch and the rows are as
- *   they were, but for QCOW2_DAMAGED_IMAGE (17), which fills the scratch as the
- *   check does; and each number that the call stores, as *host or *count, is 0.
+ *   1 to 999 is a refusal: the bytes of image, out, scratch and state and the rows
+ *   are as they were, but for QCOW2_DAMAGED_IMAGE (17), which fills the scratch as
+ *   the check does; and each number that the call stores, as *host or *count, is 0.
  *   1001 and up are the other answers. The header's numbers are tried first, in
  *   the order 1 to 8, 18, 9, 10, 19, 21, then 15 or 11, then 12, 13 and 22 on the
  *   way through the tables, then 20, then 14 or 16.
@@ -168,6 +169,8 @@ extern "C" {
 #define QCOW2_MARK_L1 1011u
 /* Damaged, bit 63 of an L2 entry below the active L1 table is wrong (check). */
 #define QCOW2_MARK_L2 1012u
+/* The check is not finished yet (check in portions). */
+#define QCOW2_MORE 1013u
 
 /* ---- The header ---------------------------------------------------------- */
 
@@ -327,7 +330,8 @@ uint32_t qcow2_backed_repair(uint8_t *image, size_t n, const uint8_t *backing, s
  * Where the autoclear field is to be cleared, a call with allowance 1 and a flush
  * come before all that. The bytes of a block may be stored in any order.
  *
- * The call keeps up to 32 KiB of marks on its stack; the others keep no such thing.
+ * The call keeps up to 32 KiB of marks on its stack. Of the others only
+ * qcow2_check_portion keeps such a thing.
  */
 uint32_t qcow2_extend(uint8_t *image, size_t n, uint64_t old, uint64_t allowance, uint64_t *units);
 
@@ -410,6 +414,64 @@ uint32_t qcow2_backed_repair_steps(const uint8_t *image, size_t n, const uint8_t
 uint32_t qcow2_backed_check(const uint8_t *image, size_t n, const uint8_t *backing, size_t b,
                             uint8_t *scratch, size_t m, uint64_t *first, uint64_t *second,
                             uint64_t *third);
+
+/* Bytes of the state of a check in portions. */
+#define QCOW2_CHECK_STATE 56
+
+/*
+ * The same check in portions, for whoever has little time at once. The caller keeps
+ * state and scratch between two portions. All 0 is a new state, with which a check
+ * begins; any bytes are a state. scratch has m bytes, at least 2N.
+ *
+ * A portion takes the next L1 entries, as many as may says while some are left:
+ * those of the active L1 table, then each snapshot's. To scratch[0..2N] it adds the
+ * references that these entries and the L2 entries below them give. With a new
+ * state it clears scratch[0..2N] before that, and adds the references of cluster 0,
+ * of the tables and of the refcount blocks. If no entry is left then, it is the last
+ * portion and judges the image: where no bad entry was met, sharing by the image's
+ * bytes, counts and bit 63 by these and the scratch.
+ *
+ *   QCOW2_MORE    not finished yet; *first, *second, *third: 0
+ *   a refusal     1 to 10, 15, 18, 19, 21, and all three are 0: nothing has changed,
+ *                 and the portion can be made again
+ *   any other     as qcow2_backed_check has it, with all three as there
+ *
+ * From a new state on, with image, backing file, state and scratch left alone
+ * between two portions, the last answer and scratch[0..2N] are those of
+ * qcow2_backed_check, whatever each portion may take. If each may take an entry,
+ * there are no more portions than L1 entries; with no entry at all there is one.
+ *
+ * A portion that may take none changes nothing, nor does one with a finished state,
+ * which answers as before; header and scratch are judged first all the same. Where
+ * the image has changed since the last portion, the next judges the bytes that it is
+ * lent: it passes over a table or an index that they lack, and does not go back to
+ * entries that were taken. So a write in between may show as leaks, or as damage
+ * that is not there. A repair makes its own check.
+ *
+ * The state is seven big-endian numbers of 8 bytes. The first is 0 for new, 1 for
+ * going, any other for finished, which is stored as 2. The next two are, while it is
+ * going, the L1 table of the last entry taken, 0 for the active one and k + 1 for
+ * snapshot k's, and the index after that entry. Then come the first bad entry so
+ * far, or the answer, as a kind and up to three numbers:
+ *
+ *   0  sound, or no bad entry      5  short: the cluster
+ *   1  leaks: how many             6  bit 63 of an L1 entry: its index
+ *   2  a bad L1 entry: its table   7  bit 63 of an L2 entry: its L1 and L2 index
+ *      and index                   8  and above, a refusal: its number, modulo 256
+ *   3  a bad L2 entry: its table,
+ *      L1 and L2 index
+ *   4  shared: the cluster
+ *
+ * Numbers that are not used are stored as 0 and not looked at. What a state that no
+ * portion has made says was found is told in the end, whatever it is.
+ *
+ * The call keeps a window of 64 KiB on its stack. The last portion walks all tables
+ * once more for each 524,288 clusters, or 32,768 where there are snapshots.
+ */
+uint32_t qcow2_backed_check_portion(const uint8_t *image, size_t n, const uint8_t *backing,
+                                    size_t b, uint8_t *state, uint8_t *scratch, size_t m,
+                                    uint64_t may, uint64_t *first, uint64_t *second,
+                                    uint64_t *third);
 
 /*
  * A cluster's stored count less the scratch's figure, from -65,535 up, and
@@ -495,6 +557,14 @@ static inline uint32_t qcow2_check(const uint8_t *image, size_t n, uint8_t *scra
                                    uint64_t *first, uint64_t *second, uint64_t *third)
 {
     return qcow2_backed_check(image, n, image, 0, scratch, m, first, second, third);
+}
+
+static inline uint32_t qcow2_check_portion(const uint8_t *image, size_t n, uint8_t *state,
+                                           uint8_t *scratch, size_t m, uint64_t may,
+                                           uint64_t *first, uint64_t *second, uint64_t *third)
+{
+    return qcow2_backed_check_portion(image, n, image, 0, state, scratch, m, may, first, second,
+                                      third);
 }
 
 #ifdef __cplusplus

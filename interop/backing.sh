@@ -120,6 +120,7 @@ over_kind() { # OPTIONS SIZE BASE
     for at in 0 1010 $((c - 3)) $((13 * c + 9)) $((17 * c + 100)) $(($2 / 2 - 50)) $(($2 - 300)); do both w "$at" 300; done
     both w $((21 * c + 1)) $((2 * c))
     expect "written by qstore" "$(all w)" "$fine"
+    portioned "  in portions" w sound
     discards "$c"
     then_by_qemu "$c"
     snapshot "$c"

@@ -32,9 +32,8 @@ field() { # FILE OFFSET: a big-endian number of four bytes
 }
 
 # sound, leaks N, damaged or refused N
-ours() { # FILE
-    local text
-    text=$("$QSTORE" check "$1" --json) || true
+verdict() { # JSON
+    local text=$1
     case $text in
         *'"refused": '*) text=${text##*'"refused": '}; echo "refused ${text%%,*}" ;;
         *'"verdict": "leaks"'*) text=${text##*'"leaks": '}; echo "leaks ${text%%,*}" ;;
@@ -42,6 +41,12 @@ ours() { # FILE
         *'"verdict": "sound"'*) echo sound ;;
         *) echo "?" ;;
     esac
+}
+
+ours() { # FILE
+    local text
+    text=$("$QSTORE" check "$1" --json) || true
+    verdict "$text"
 }
 
 # The same from qemu-img check.
@@ -150,6 +155,7 @@ made "convert -c (compressed clusters)" a 'refused 5; refused 6; damaged'
 . "$here/bitmaps.sh"
 . "$here/advice.sh"
 . "$here/locks.sh"
+. "$here/portions.sh"
 . "$here/backing.sh"
 
 echo "== $same as expected, $other otherwise"

@@ -21,7 +21,10 @@ pub struct Options {
 #[derive(Debug, PartialEq)]
 pub enum Command {
     Info,
-    Check,
+    /// The whole check, or a portion.
+    Check {
+        portion: Option<Portion>,
+    },
     Repair {
         allowance: u64,
         force: bool,
@@ -49,13 +52,23 @@ pub enum Command {
     },
 }
 
+/// A portion of a check.
+#[derive(Debug, PartialEq)]
+pub struct Portion {
+    /// The file that keeps the check between portions.
+    pub state: PathBuf,
+    /// The most L1 entries that it takes.
+    pub entries: u64,
+}
+
 impl Command {
     /// Is it one that may change the image?
     pub fn changes(&self) -> bool {
         match self {
             Command::Repair { .. } | Command::Write { .. } => true,
             Command::Discard { .. } | Command::Extend { .. } => true,
-            Command::Info | Command::Check | Command::Map | Command::Read { .. } => false,
+            Command::Info | Command::Check { .. } => false,
+            Command::Map | Command::Read { .. } => false,
         }
     }
 }
@@ -70,13 +83,16 @@ pub enum Parsed {
 
 /// The options of the commands that change nothing.
 const LOOKS: &[&str] = &["--share", "--as-if-mended"];
+const CHECKS: &[&str] = &["--state", "--entries", "--share", "--as-if-mended"];
 const READS: &[&str] = &["--snapshot", "--share", "--as-if-mended"];
+/// Those of all commands.
+const OF_ALL: &[&str] = &["--json", "--backing", "--as-raw"];
 
 /// A command's name, its operands beside the image, its options beside those
 /// of all, and its help.
 pub const COMMANDS: [(&str, &[&str], &[&str], &str); 8] = [
     ("info", &[], LOOKS, help::INFO),
-    ("check", &[], LOOKS, help::CHECK),
+    ("check", &[], CHECKS, help::CHECK),
     ("repair", &[], &["--allowance", "--force"], help::REPAIR),
     ("map", &[], LOOKS, help::MAP),
     ("read", &["OFFSET", "LENGTH"], READS, help::READ),
@@ -90,7 +106,7 @@ pub fn parse(args: impl IntoIterator<Item = OsString>) -> Result<Parsed, String>
     let mut args = args.into_iter();
     let first = args.next().ok_or("a command is missing")?;
     let name = match first.to_str() {
-        Some("--help" | "-h" | "help") => return Ok(Parsed::Help(help::MAIN)),
+        Some("--help" | "-h" | "help") => return Ok(Parsed::Help(help_on(args.next()))),
         Some("--man") => return Ok(Parsed::Man),
         Some("--version") => return Ok(Parsed::Version),
         Some(name) => name,
@@ -114,13 +130,17 @@ pub fn parse(args: impl IntoIterator<Item = OsString>) -> Result<Parsed, String>
     if let Some(extra) = given.next() {
         return Err(format!("{name}: '{}' is one operand too many", extra.to_string_lossy()));
     }
-    if line.as_raw && line.backing.is_none() {
-        return Err(format!("{name}: --as-raw is about the file of --backing, which is missing"));
-    }
+    line.is_whole().map_err(|fault| format!("{name}: {fault}"))?;
     let Line { json, share, as_if_mended, as_raw, .. } = line;
     let backing = line.backing.as_ref().map(PathBuf::from);
     let command = command(name, &numbers, line);
     Ok(Parsed::Run(Options { json, image, share, as_if_mended, backing, as_raw, command }))
+}
+
+/// The text of a command, or that of all.
+fn help_on(word: Option<OsString>) -> &'static str {
+    let named = COMMANDS.iter().find(|command| word.as_ref().is_some_and(|it| it == command.0));
+    named.map_or(help::MAIN, |command| command.3)
 }
 
 /// Does the line ask for JSON, wherever it is wrong?
@@ -129,10 +149,13 @@ pub fn asks_json(line: &[OsString]) -> bool {
 }
 
 fn command(name: &str, numbers: &[u64], line: Line) -> Command {
-    let Line { allowance, force, snapshot, .. } = line;
+    let Line { allowance, force, snapshot, state, entries, .. } = line;
     match (name, numbers) {
         ("info", _) => Command::Info,
-        ("check", _) => Command::Check,
+        ("check", _) => {
+            let entries = entries.unwrap_or(u64::MAX);
+            Command::Check { portion: state.map(|state| Portion { state: state.into(), entries }) }
+        }
         ("repair", _) => Command::Repair { allowance, force },
         ("read", &[offset, length]) => Command::Read { offset, length, snapshot },
         ("write", &[offset]) => Command::Write { offset, allowance },
@@ -153,6 +176,8 @@ struct Line {
     as_if_mended: bool,
     backing: Option<OsString>,
     as_raw: bool,
+    state: Option<OsString>,
+    entries: Option<u64>,
 }
 
 /// Operands and options; None if help is asked for.
@@ -168,27 +193,8 @@ fn line(
                 break;
             }
             Some("--help" | "-h") => return Ok(None),
-            Some("--json") => line.json = true,
-            Some("--as-raw") => line.as_raw = true,
-            Some("--backing") => {
-                let file = args.next().ok_or("--backing: the name of a file is missing")?;
-                if line.backing.replace(file).is_some() {
-                    return Err("--backing: one file alone can lie under an image".into());
-                }
-            }
-            Some("--force") if options.contains(&"--force") => line.force = true,
-            Some("--share") if options.contains(&"--share") => line.share = true,
-            Some("--as-if-mended") if options.contains(&"--as-if-mended") => {
-                line.as_if_mended = true;
-            }
-            Some("--allowance") if options.contains(&"--allowance") => {
-                let value = args.next().ok_or("--allowance: the number of units is missing")?;
-                let value = number::parse(&value.to_string_lossy());
-                line.allowance = value.map_err(|fault| format!("--allowance: {fault}"))?;
-            }
-            Some("--snapshot") if options.contains(&"--snapshot") => {
-                let word = args.next().ok_or("--snapshot: the id, name or #number is missing")?;
-                line.snapshot = Some(word);
+            Some(option) if OF_ALL.contains(&option) || options.contains(&option) => {
+                line.take(option, &mut args)?;
             }
             Some(option) if option.len() > 1 && option.starts_with('-') => {
                 return Err(format!("there is no option '{option}' here"));
@@ -197,6 +203,61 @@ fn line(
         }
     }
     Ok(Some(line))
+}
+
+impl Line {
+    /// An option, with what has to stand after it.
+    fn take(
+        &mut self,
+        option: &str,
+        args: &mut impl Iterator<Item = OsString>,
+    ) -> Result<(), String> {
+        let mut next = |what| args.next().ok_or_else(|| format!("{option}: the {what} is missing"));
+        match option {
+            "--json" => self.json = true,
+            "--as-raw" => self.as_raw = true,
+            "--force" => self.force = true,
+            "--share" => self.share = true,
+            "--as-if-mended" => self.as_if_mended = true,
+            "--allowance" => self.allowance = number(option, &next("number of units")?)?,
+            "--entries" => self.entries = Some(number(option, &next("number of L1 entries")?)?),
+            "--snapshot" => self.snapshot = Some(next("id, name or #number")?),
+            "--backing" => {
+                let file = next("name of a file")?;
+                once(&mut self.backing, file, "--backing: one file alone can lie under an image")?;
+            }
+            "--state" => {
+                let file = next("name of a file")?;
+                once(&mut self.state, file, "--state: one file alone can keep a check")?;
+            }
+            _ => {}
+        }
+        Ok(())
+    }
+
+    /// Is there what an option is about?
+    fn is_whole(&self) -> Result<(), &'static str> {
+        if self.as_raw && self.backing.is_none() {
+            return Err("--as-raw is about the file of --backing, which is missing");
+        }
+        if self.entries.is_some() && self.state.is_none() {
+            return Err(
+                "--entries is about the check that the file of --state keeps, which is missing",
+            );
+        }
+        Ok(())
+    }
+}
+
+fn once(given: &mut Option<OsString>, word: OsString, fault: &str) -> Result<(), String> {
+    match given.replace(word) {
+        None => Ok(()),
+        Some(_) => Err(fault.into()),
+    }
+}
+
+fn number(option: &str, word: &OsString) -> Result<u64, String> {
+    number::parse(&word.to_string_lossy()).map_err(|fault| format!("{option}: {fault}"))
 }
 
 #[cfg(test)]
@@ -230,7 +291,12 @@ mod tests {
         let command = run("repair --force a").unwrap().command;
         assert_eq!(command, Command::Repair { allowance, force: true });
         assert_eq!(run("info a").unwrap().command, Command::Info);
-        assert_eq!(run("check a").unwrap().command, Command::Check);
+        assert_eq!(run("check a").unwrap().command, Command::Check { portion: None });
+        for (line, entries) in [("--state s", u64::MAX), ("--entries 2k --state s", 2048)] {
+            let command = run(&format!("check {line} a")).unwrap().command;
+            let portion = Some(Portion { state: "s".into(), entries });
+            assert_eq!(command, Command::Check { portion });
+        }
         assert_eq!(run("map -").unwrap().command, Command::Map);
         let options = run("check a --share --as-if-mended").unwrap();
         assert!(options.share && options.as_if_mended && options.backing.is_none());
@@ -262,12 +328,23 @@ mod tests {
         for line in ["check a --snapshot 1", "map a --snapshot 1", "write a 0 --snapshot 1"] {
             assert_eq!(fault(line), "there is no option '--snapshot' here");
         }
+        for line in ["info a", "map a", "repair a", "extend a 512"] {
+            for option in ["--state", "--entries"] {
+                let fault = fault(&format!("{line} {option} 1"));
+                assert_eq!(fault, format!("there is no option '{option}' here"));
+            }
+        }
         assert!(fault("read a 0 1 --snapshot").contains("missing"));
         assert!(fault("write a x").starts_with("write: OFFSET: 'x' is no number"));
         assert!(fault("write a 0 --allowance").contains("missing"));
         assert!(fault("check a --backing").contains("missing"));
         assert!(fault("check a --backing b --backing b").contains("one file alone"));
         assert!(fault("check a --as-raw").contains("--backing, which is missing"));
+        assert!(fault("check a --state").contains("missing"));
+        assert!(fault("check a --state s --state s").contains("one file alone"));
+        assert!(fault("check a --state s --entries").contains("missing"));
+        assert!(fault("check a --state s --entries -1").contains("'-1' is no number"));
+        assert!(fault("check a --entries 1").contains("--state keeps, which is missing"));
     }
 
     #[test]
@@ -283,15 +360,22 @@ mod tests {
     #[test]
     fn every_command_has_help() {
         for (name, _, options, text) in COMMANDS {
-            let asked = parse([name, "--help"].map(OsString::from));
-            assert!(matches!(asked, Ok(Parsed::Help(found)) if found == text));
+            for line in [[name, "--help"], ["help", name], ["--help", name]] {
+                let asked = parse(line.map(OsString::from));
+                assert!(matches!(asked, Ok(Parsed::Help(found)) if found == text));
+            }
             assert!(text.starts_with(&format!("qstore {name} IMAGE")));
-            for option in ["--allowance", "--force", "--share", "--as-if-mended", "--snapshot"] {
-                assert_eq!(text.contains(option), options.contains(&option));
-                assert_eq!(text.contains(&format!("\n  {option} ")), options.contains(&option));
+            let all = COMMANDS.iter().flat_map(|command| command.2);
+            for option in all {
+                assert_eq!(text.contains(option), options.contains(option), "{name} {option}");
+                assert_eq!(text.contains(&format!("\n  {option} ")), options.contains(option));
             }
             assert!(text.contains("\n  --backing FILE ") && text.contains("\n  --as-raw "));
             assert!(help::MAIN.contains(&format!("qstore {name} ")));
+        }
+        for line in [&["help"][..], &["--help", "list"]] {
+            let asked = parse(line.iter().map(OsString::from));
+            assert!(matches!(asked, Ok(Parsed::Help(found)) if found == help::MAIN));
         }
     }
 }

@@ -139,7 +139,8 @@ pub fn is_zero(bytes: &[u8]) -> bool {
     bytes.chunks(4096).all(|part| part.iter().fold(0, |all, byte| all | byte) == 0)
 }
 
-fn advise(bytes: &[u8]) {
+/// For bytes that are about to be read or filled.
+pub fn advise(bytes: &[u8]) {
     if bytes.len() >= LONG {
         qstore_sys::advise_large_pages(bytes);
     }

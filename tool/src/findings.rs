@@ -165,15 +165,24 @@ fn damaged(finding: &'static str, more: Members) -> Members {
     members
 }
 
-/// The tables of a snapshot, or else of the disk.
-fn tree(layout: &Layout, image: &[u8], snapshot: Option<u64>) -> Layout {
-    let trees = layout.with_snapshots(image);
-    trees.into_iter().find(|tree| tree.snapshot == snapshot).unwrap_or(*layout)
+/// The tables of a snapshot or of the disk, if there is such an L1 entry: a check in
+/// portions may name what was there earlier.
+fn tree(layout: &Layout, image: &[u8], snapshot: Option<u64>, l1_index: u64) -> Option<Layout> {
+    let mut trees = layout.with_snapshots(image).into_iter();
+    trees.find(|tree| tree.snapshot == snapshot && l1_index < tree.l1_size as u64)
 }
 
 /// After the name of an entry: whose it is.
 pub fn of_snapshot(snapshot: Option<u64>) -> String {
     snapshot.map_or(String::new(), |number| format!(" of snapshot {number}"))
+}
+
+/// An entry may have been changed since an earlier portion of a check met it.
+fn about(fault: Option<Fault>, entry: u64) -> String {
+    fault.map_or_else(
+        || "it was bad when the check met it, and is not any more".into(),
+        |fault| fault.about(entry),
+    )
 }
 
 fn bad_l1(
@@ -182,9 +191,9 @@ fn bad_l1(
     l1_index: u64,
     snapshot: Option<u64>,
 ) -> (String, Members) {
-    let tree = tree(layout, image, snapshot);
-    let entry = be64(image, tree.l1_entry_at(l1_index)).unwrap_or(0);
-    let fault = l1_fault(layout, image, entry).map_or(String::new(), |fault| fault.about(entry));
+    let at = tree(layout, image, snapshot, l1_index).map(|tree| tree.l1_entry_at(l1_index));
+    let entry = at.and_then(|at| be64(image, at)).unwrap_or(0);
+    let fault = about(l1_fault(layout, image, entry), entry);
     let whose = of_snapshot(snapshot);
     let text = format!("damaged: L1 entry {l1_index}{whose} is 0x{entry:016x}: {fault}");
     let mut more = vec![
@@ -202,10 +211,11 @@ fn bad_l2(
     [l1_index, l2_index]: [u64; 2],
     snapshot: Option<u64>,
 ) -> (String, Members) {
-    let tree = tree(layout, image, snapshot);
     let guest = l1_index * layout.per_table() + l2_index;
-    let entry = tree.l2_entry_at(image, guest).and_then(|at| be64(image, at)).unwrap_or(0);
-    let fault = l2_fault(layout, image, entry).map_or(String::new(), |fault| fault.about(entry));
+    let tree = tree(layout, image, snapshot, l1_index);
+    let at = tree.and_then(|tree| tree.l2_entry_at(image, guest));
+    let entry = at.and_then(|at| be64(image, at)).unwrap_or(0);
+    let fault = about(l2_fault(layout, image, entry), entry);
     let (offset, whose) = (guest << layout.bits, of_snapshot(snapshot));
     let text = format!(
         "damaged: L2 entry {l2_index} below L1 entry {l1_index}{whose} (guest offset {offset}) is \

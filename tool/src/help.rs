@@ -51,8 +51,9 @@ qstore: qcow2 images by the proved core
 
 Numbers: 4096, 0x1000, or 4k, 1M, 1G, 1T (powers of 1024).
 
-Exit: 0 sound or finished, 1 failed, refused or stopped, 2 damaged, 3 leaks
-(3 only from check). A refusal has a number from 1 to 22 and says what to do.
+Exit: 0 sound or finished, 1 failed, refused or stopped, 2 damaged; only from
+check 3 leaks and 4 not finished. A refusal has a number from 1 to 22 and says
+what to do.
 qemu's locks are taken: an image that a machine has open is not changed.
 
 An image over a backing file is refused (19) unless --backing gives that file.
@@ -83,7 +84,8 @@ Exit: 0, or 1 if the image is refused.
 
 pub const CHECK: &str = concat!(
     "\
-qstore check IMAGE [--backing FILE] [--json] [--share] [--as-if-mended]
+qstore check IMAGE [--state STATE [--entries K]] [--backing FILE] [--json]
+             [--share] [--as-if-mended]
 
 Counts the references of every cluster, from the disk and from every snapshot,
 and compares them with the stored counts. The verdict comes first, then all
@@ -91,11 +93,26 @@ damage: bad entries, with the number of the snapshot whose they are; clusters
 that are used for two things or twice for one; clusters whose count is too low;
 wrong marks, which are entries of the disk whose bit 63 does not say whether
 there is another reference. The image is not changed.
+
+With --state it is done in portions, one a run. A portion looks at the next K
+entries of the L1 tables, the disk's first and then each snapshot's, and the file
+STATE keeps how far the check is and what it has counted. The last one gives the
+verdict: that of the whole check if the image was not changed meanwhile. If it
+was, each portion judges the bytes that it finds, and a note says so. Without
+--entries the run goes on to the end; --entries 0 says how far the check is.
+
+STATE is made if there is none, and is then replaced as a whole; what qstore has
+not written is left alone. It belongs to one image file of one length. When the
+check has ended STATE stays: the verdict is given again while the image has the
+same bytes, and if it has others, that is a failure. Remove STATE to begin anew.
 ",
     backing!(),
+    "  --state STATE   do the check in portions; this file keeps it between them
+  --entries K     the most entries of L1 tables that this portion looks at
+",
     looks!(),
     "
-Exit: 0 sound, 1 failed or refused, 2 damaged, 3 leaks.
+Exit: 0 sound, 1 failed or refused, 2 damaged, 3 leaks, 4 not finished.
 "
 );
 

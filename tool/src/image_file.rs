@@ -166,7 +166,7 @@ pub fn notes_unread(access: Access, view: View) -> Vec<String> {
     notes
 }
 
-fn regular(kind: FileType, wanted: &str) -> Result<(), Failure> {
+pub fn regular(kind: FileType, wanted: &str) -> Result<(), Failure> {
     let what = if kind.is_file() {
         return Ok(());
     } else if kind.is_dir() {

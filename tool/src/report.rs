@@ -13,6 +13,8 @@ pub const DONE: u8 = 0;
 pub const FAILED: u8 = 1;
 pub const DAMAGED: u8 = 2;
 pub const LEAKS: u8 = 3;
+/// Of a check in portions.
+pub const UNFINISHED: u8 = 4;
 
 pub struct Report {
     pub text: String,

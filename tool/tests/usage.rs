@@ -5,10 +5,14 @@ mod common;
 use common::qstore;
 
 /// What is wrong, for each line.
-const WRONG: [(&[&str], &str); 7] = [
+const WRONG: [(&[&str], &str); 11] = [
     (&["frob"], "there is no command 'frob'"),
     (&["check"], "check: IMAGE is missing"),
     (&["check", "a", "--frob"], "there is no option '--frob' here"),
+    (&["check", "a", "--entries", "1"], "check: --entries is about the check that the file of --s"),
+    (&["check", "a", "--state", "s", "--entries", "ten"], "--entries: 'ten' is no number"),
+    (&["check", "a", "--state", "s", "--state", "s"], "--state: one file alone can keep a check"),
+    (&["map", "a", "--state", "s"], "there is no option '--state' here"),
     (&["read", "a", "ten", "1"], "read: OFFSET: 'ten' is no number"),
     (&["write", "a", "0", "1"], "write: '1' is one operand too many"),
     (&["extend", "a"], "extend: BYTES is missing"),

@@ -34,6 +34,10 @@ macro_rules! calls {
                 image: &[u8], scratch: &mut [u8], rows: &mut [u64]
             ) -> Result<usize, u32>;
             fn check(image: &[u8], scratch: &mut [u8]) -> $crate::Verdict;
+            /// The check's next portion, of `may` L1 entries at most.
+            fn check_portion(
+                image: &[u8], state: &mut $crate::CheckBytes, scratch: &mut [u8], may: u64
+            ) -> $crate::Portion;
         }
     };
     (@trait [] $($(#[$doc:meta])* fn $call:ident $(<$life:lifetime>)? (

@@ -3,9 +3,11 @@
 #![forbid(unsafe_code)]
 
 mod calls;
+mod portions;
 mod steps;
 
 pub use calls::{Calls, Over};
+pub use portions::{CheckBytes, Portion, CHECK_STATE};
 pub use steps::{Geometry, Step, STEP};
 
 /// What stands behind one guest offset.

@@ -27,6 +27,12 @@ pub struct Bench {
 /// One timed run of a side, which is lent the image's backing file.
 pub type Run<'a> = &'a dyn Fn(Over, &mut Buffers) -> Duration;
 
+/// One timed run of any kind, with a scratch; a part of its time comes second.
+pub type Turn<'a> = &'a dyn Fn(&mut [u8]) -> [Duration; 2];
+
+/// The longest that the runs of one row may take together, in seconds.
+const LONGEST: f64 = 20.0;
+
 pub fn timed(work: impl FnOnce()) -> Duration {
     let start = Instant::now();
     work();
@@ -61,6 +67,27 @@ impl Bench {
         );
     }
 
+    /// The times of several kinds of runs in turn, rising. Long ones are run less often,
+    /// three times at least; the first round, which warms up, is not counted.
+    pub fn turns(&self, scratch: usize, turns: &[Turn]) -> Vec<[Vec<f64>; 2]> {
+        let (mut scratch, start) = (vec![0; scratch], Instant::now());
+        let mut times = vec![[Vec::new(), Vec::new()]; turns.len()];
+        for round in 0..=self.runs {
+            let elapsed = start.elapsed().as_secs_f64();
+            if round > 3 && elapsed * (round + 1) as f64 > LONGEST * round as f64 {
+                break;
+            }
+            for k in (0..turns.len()).map(|k| (k + round) % turns.len()) {
+                let run = turns[k](&mut scratch).map(|time| time.as_nanos() as f64 / 1000.0);
+                if round > 0 {
+                    times[k].iter_mut().zip(run).for_each(|(of, time)| of.push(time));
+                }
+            }
+        }
+        times.iter_mut().flatten().for_each(|of| of.sort_unstable_by(f64::total_cmp));
+        times
+    }
+
     /// The times of core and plain, rising; the side that goes first changes
     /// each time, and the first round, which warms up, is not counted.
     fn times(&self, made: &Made, calls: usize, restored: bool, run: Run) -> [Vec<f64>; 2] {
@@ -91,7 +118,8 @@ impl Bench {
     }
 }
 
-fn spread(times: &[f64]) -> String {
+/// Least, median and greatest.
+pub fn spread(times: &[f64]) -> String {
     let of = |k: usize| match times[times.len() / 2] {
         t if t < 10.0 => format!("{:.2}", times[k]),
         _ => format!("{:.1}", times[k]),

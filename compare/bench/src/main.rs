@@ -1,6 +1,6 @@
 //! Times the proved core and the plain implementation side by side and prints
 //! tables of ratios. An argument chooses one family of cases: check, short,
-//! shared, snapshots, free, read, backed, map, store, extend, long or widths.
+//! shared, snapshots, portions, free, read, backed, map, store, extend, long or widths.
 #![forbid(unsafe_code)]
 
 mod backed;
@@ -11,6 +11,7 @@ mod extend;
 mod free;
 mod long;
 mod map;
+mod portions;
 mod read;
 mod snapshots;
 mod store;
@@ -18,11 +19,15 @@ mod widths;
 
 use bench::Bench;
 
-const FAMILIES: [(&str, fn(&Bench)); 12] = [
+/// A family's name and its cases.
+type Family = (&'static str, fn(&Bench));
+
+const FAMILIES: [Family; 13] = [
     ("check", check::run),
     ("short", damaged::short),
     ("shared", damaged::shared),
     ("snapshots", snapshots::run),
+    ("portions", portions::run),
     ("free", free::run),
     ("read", read::run),
     ("backed", backed::run),
@@ -45,8 +50,11 @@ fn main() {
     for (name, run) in FAMILIES {
         if wanted.as_deref().is_none_or(|wanted| wanted == name) {
             found = true;
-            println!("\n| {name} | core | plain | ratio | of the least |");
-            println!("|---|---|---|---|---|");
+            // This one compares the core with itself too.
+            if name != "portions" {
+                println!("\n| {name} | core | plain | ratio | of the least |");
+                println!("|---|---|---|---|---|");
+            }
             run(&bench);
         }
     }

@@ -13,6 +13,7 @@ pub const SNAPSHOT_BAD_L1: u32 = 1009;
 pub const SNAPSHOT_BAD_L2: u32 = 1010;
 pub const MARK_L1: u32 = 1011;
 pub const MARK_L2: u32 = 1012;
+pub const MORE: u32 = 1013;
 
 extern "C" {
     pub fn qcow2_backed_geometry(
@@ -141,6 +142,19 @@ extern "C" {
         b: usize,
         scratch: *mut u8,
         m: usize,
+        first: *mut u64,
+        second: *mut u64,
+        third: *mut u64,
+    ) -> u32;
+    pub fn qcow2_backed_check_portion(
+        image: *const u8,
+        n: usize,
+        backing: *const u8,
+        b: usize,
+        state: *mut u8,
+        scratch: *mut u8,
+        m: usize,
+        may: u64,
         first: *mut u64,
         second: *mut u64,
         third: *mut u64,

@@ -10,11 +10,17 @@
 //! the out values are locals.
 
 mod ffi;
+mod portions;
 mod steps;
 #[cfg(test)]
 mod stored;
+#[cfg(test)]
+mod stored_portions;
 
-pub use answers::{Found, Geometry, Outcome, Run, Step, Verdict, STEP};
+pub use answers::{
+    CheckBytes, Found, Geometry, Outcome, Portion, Run, Step, Verdict, CHECK_STATE, STEP,
+};
+pub use portions::check_portion;
 pub use steps::{discard_steps, repair_steps, write_steps};
 
 /// The proved core as an implementation of [`answers::Calls`].
@@ -158,12 +164,19 @@ pub fn extend(image: &mut [u8], old: u64, allowance: u64) -> Outcome {
 
 /// Counts the references into `scratch` and judges the stored counts by them.
 pub fn check(image: &[u8], backing: &[u8], scratch: &mut [u8]) -> Verdict {
-    let (mut pad, [mut first, mut second, mut third]) = (0, [0; 3]);
+    let mut pad = 0;
     let ((image, n), (backing, b)) = (lend(image), lend(backing));
     let (scratch, m) = lend_mut(scratch, &mut pad);
-    let (one, two, three) = (&mut first, &mut second, &mut third);
     // SAFETY: see the head of this file.
-    match unsafe { ffi::qcow2_backed_check(image, n, backing, b, scratch, m, one, two, three) } {
+    judged(|first, second, third| unsafe {
+        ffi::qcow2_backed_check(image, n, backing, b, scratch, m, first, second, third)
+    })
+}
+
+/// Lends the three numbers of a check; what it says by them and by its code.
+fn judged(call: impl FnOnce(&mut u64, &mut u64, &mut u64) -> u32) -> Verdict {
+    let [mut first, mut second, mut third] = [0; 3];
+    match call(&mut first, &mut second, &mut third) {
         0 => Verdict::Sound,
         ffi::LEAKS => Verdict::Leaks(first),
         ffi::BAD_L1 => Verdict::BadL1(first),

@@ -1,6 +1,7 @@
 //! The C interface itself: the numbers that each call stores beside each of its
 //! answers, and that a refusal stores 0 and changes no lent byte and no row.
 
+use answers::CheckBytes;
 use made::breaks::{break_header, ORDER};
 use made::image::{Kind, Made, USED};
 use made::plan::bench_image;
@@ -9,13 +10,13 @@ use made::snapshots::keep_all;
 
 use crate::{ffi, lend};
 
-const ALL: u64 = u64::MAX;
+pub const ALL: u64 = u64::MAX;
 /// What the numbers hold before a call; no call gives it.
 const HELD: u64 = 0xC3C3_C3C3_C3C3_C3C3;
 const CLUSTERS: usize = 16;
 const OLD: u64 = 512 * CLUSTERS as u64;
 /// The scratch that a check needs.
-const SCRATCH: usize = 2 * CLUSTERS;
+pub const SCRATCH: usize = 2 * CLUSTERS;
 /// Numbers that are there to be lent.
 const ROWS: usize = 31;
 /// L1 entry 1 has the table of the guest clusters from 64 on.
@@ -24,7 +25,7 @@ const OFFSET: u64 = GUEST * 512;
 
 /// A call, with how much of the scratch it is lent and its allowance.
 #[derive(Clone, Copy, Debug)]
-enum Call {
+pub enum Call {
     Geometry,
     BackingName,
     Translate(u64),
@@ -39,31 +40,34 @@ enum Call {
     DiscardSteps { cluster: u64, room: usize },
     RepairSteps { scratch: usize, room: usize },
     Check { scratch: usize },
+    Portion { scratch: usize, may: u64 },
 }
 
 /// All that a call is lent but its numbers.
 #[derive(Clone, PartialEq)]
-struct Lent {
+pub struct Lent {
     image: Vec<u8>,
     backing: Vec<u8>,
     bytes: [u8; 3],
     rows: [u64; ROWS],
     scratch: [u8; SCRATCH + 1],
+    pub state: CheckBytes,
 }
 
 impl Lent {
-    fn of(made: &Made) -> Lent {
+    pub fn of(made: &Made) -> Lent {
         let (image, backing) = (made.bytes.clone(), made.backing.clone());
         let (rows, scratch) = ([HELD; ROWS], [0x5A; SCRATCH + 1]);
-        Lent { image, backing, bytes: *b"abc", rows, scratch }
+        Lent { image, backing, bytes: *b"abc", rows, scratch, state: CheckBytes::NEW }
     }
 
     /// Makes the call; its answer, and its numbers after it.
-    fn call(&mut self, call: Call) -> (u32, Vec<u64>) {
+    pub fn call(&mut self, call: Call) -> (u32, Vec<u64>) {
         let (image, n) = (self.image.as_mut_ptr(), self.image.len());
         let (backing, b) = lend(&self.backing);
         let (bytes, len) = (self.bytes.as_mut_ptr(), self.bytes.len());
         let (rows, figures) = (self.rows.as_mut_ptr(), self.scratch.as_mut_ptr());
+        let state = self.state.0.as_mut_ptr();
         let [x, y, z] = &mut [HELD; 3];
         macro_rules! over {
             ($call:ident, $($arg:expr),+) => { ffi::$call(image, n, backing, b, $($arg),+) };
@@ -102,6 +106,9 @@ impl Lent {
                     over!(qcow2_backed_repair_steps, figures, scratch, rows, room, x)
                 }
                 Call::Check { scratch } => over!(qcow2_backed_check, figures, scratch, x, y, z),
+                Call::Portion { scratch, may } => {
+                    over!(qcow2_backed_check_portion, state, figures, scratch, may, x, y, z)
+                }
             }
         };
         (code, [*x, *y, *z][..call.numbers()].to_vec())
@@ -114,7 +121,7 @@ impl Call {
         match self {
             Call::Read(_) | Call::ReadSnapshot(..) => 0,
             Call::BackingName => 2,
-            Call::Geometry | Call::Check { .. } => 3,
+            Call::Geometry | Call::Check { .. } | Call::Portion { .. } => 3,
             _ => 1,
         }
     }
@@ -135,6 +142,7 @@ impl Call {
         match self {
             Call::Repair { scratch, .. }
             | Call::RepairSteps { scratch, .. }
+            | Call::Portion { scratch, .. }
             | Call::Check { scratch } => scratch,
             _ => 0,
         }
@@ -157,7 +165,7 @@ fn refused(made: &Made, call: Call, number: u32) {
 
 /// The bench image with an L2 table in cluster 4: data in cluster 5, zeros, and
 /// not allocated from there on.
-fn sound() -> Made {
+pub fn sound() -> Made {
     let (mut made, mut rng) = (bench_image(), Rng::new(7));
     let table = made.add_table(1).expect("room for a table");
     assert_eq!(table, 4 * 512);
@@ -167,21 +175,21 @@ fn sound() -> Made {
 }
 
 /// The same with one more L2 entry, for the guest cluster after the zeros.
-fn with_entry(entry: u64) -> Made {
+pub fn with_entry(entry: u64) -> Made {
     let mut made = sound();
     made.put64(4 * 512 + 8 * 2, entry);
     made
 }
 
 /// The same with another stored count.
-fn with_count(cluster: usize, count: u64) -> Made {
+pub fn with_count(cluster: usize, count: u64) -> Made {
     let mut made = sound();
     made.set_count(cluster, count);
     made
 }
 
 const COMPRESSED: u64 = 1 << 62;
-const BAD: u64 = 2;
+pub const BAD: u64 = 2;
 const AFTER_ZEROS: u64 = OFFSET + 1024;
 
 fn check(made: &Made) -> (u32, Vec<u64>) {
@@ -319,7 +327,7 @@ fn first_second_and_third() {
 
 /// The sound image with two snapshots of it; the table in cluster 4 and the data
 /// in cluster 5 are theirs too. The snapshots' L1 tables are in clusters 7 and 8.
-fn kept() -> Made {
+pub fn kept() -> Made {
     let mut made = sound();
     keep_all(&mut made, 2);
     assert_eq!((made.snapshots[0].l1_at, made.snapshots[1].l1_at), (7 * 512, 8 * 512));
@@ -372,6 +380,7 @@ fn refused_requests() {
     refused(&made, Call::Discard { cluster: end / 512, allowance: ALL }, 11);
     refused(&made, Call::Repair { scratch: SCRATCH - 1, allowance: ALL }, 15);
     refused(&made, Call::Check { scratch: SCRATCH - 1 }, 15);
+    refused(&made, Call::Portion { scratch: SCRATCH - 1, may: ALL }, 15);
     refused(&with_count(5, 0), Call::Discard { cluster: GUEST, allowance: ALL }, 16);
     refused(&made, Call::WriteSteps { offset: 510, len: 3, room: ROWS }, 11);
     refused(&made, Call::WriteSteps { offset: 0, len: ALL, room: ROWS }, 11);
@@ -452,6 +461,7 @@ fn refused_by_all(made: &Made, number: u32) {
         Call::DiscardSteps { cluster: GUEST, room: ROWS },
         Call::RepairSteps { scratch: SCRATCH + 1, room: ROWS },
         Call::Check { scratch: SCRATCH + 1 },
+        Call::Portion { scratch: SCRATCH + 1, may: ALL },
     ] {
         refused(made, call, number);
     }

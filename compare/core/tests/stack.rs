@@ -4,22 +4,24 @@
 
 use std::thread;
 
-use answers::Outcome;
+use answers::{CheckBytes, Outcome, Portion, Verdict};
 use made::full::{self, Layout, Shape};
+use made::hostile;
 use made::image::{Kind, Made};
 use made::longer;
 use qcow2_core::Core;
 
 const STACK: usize = 64 << 10;
+/// What a portion of a check keeps on its stack, which goes beside half of that.
+const WINDOW: usize = 64 << 10;
 const ALL: u64 = u64::MAX;
 
 fn on_little_stack(work: impl FnOnce() + Send + 'static) {
-    thread::Builder::new()
-        .stack_size(STACK)
-        .spawn(work)
-        .expect("a thread")
-        .join()
-        .expect("its end");
+    on_stack(STACK, work);
+}
+
+fn on_stack(size: usize, work: impl FnOnce() + Send + 'static) {
+    thread::Builder::new().stack_size(size).spawn(work).expect("a thread").join().expect("its end");
 }
 
 #[test]
@@ -74,6 +76,27 @@ fn many_blocks() {
         on_little_stack(move || {
             let outcome = qcow2_core::extend(&mut longer.made.bytes, old, ALL);
             assert_eq!(outcome, Outcome::Finished(((new << bits) + new) as u64));
+        });
+    }
+}
+
+/// One that is not the last, and the last, which looks for shared clusters.
+#[test]
+fn portions() {
+    for (made, verdict) in [
+        (full::full(9), Verdict::Sound),
+        (full::full(21), Verdict::Sound),
+        (full::with_snapshots(9, 8, Layout::Scattered), Verdict::Sound),
+        (full::with_snapshots(16, 64, Layout::Rising), Verdict::Sound),
+        (hostile::one_table(9, 100, 64), Verdict::Shared(2)),
+    ] {
+        on_stack(WINDOW + STACK / 2, move || {
+            let (mut state, mut scratch) = (CheckBytes::NEW, vec![0; made.scratch()]);
+            let mut next =
+                |may| qcow2_core::check_portion(&made.bytes, &[], &mut state, &mut scratch, may);
+            assert_eq!(next(0), Portion::More);
+            next(1);
+            assert_eq!(next(ALL), Portion::Told(verdict));
         });
     }
 }

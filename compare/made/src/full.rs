@@ -106,14 +106,13 @@ pub fn full(cluster_bits: u32) -> Made {
     full_of(Shape::of(cluster_bits), Kind::Data, Layout::Rising)
 }
 
-/// A full image of the usual length whose snapshots share most clusters with the
-/// active disk and with each other.
-pub fn with_snapshots(cluster_bits: u32, count: usize, layout: Layout) -> Made {
-    let shape = Shape::of(cluster_bits);
+/// A full image whose snapshots share most clusters with the active disk and with each
+/// other.
+pub fn with_snapshots_of(shape: Shape, count: usize, layout: Layout) -> Made {
     let mut made = empty_of(shape, shape.clusters(), layout);
     let room = snapshots::reserve(&mut made, count);
     // Of each 32 tables one, and half of its data; with one table that is many.
-    let (step, own) = match cluster_bits {
+    let (step, own) = match shape.cluster_bits {
         16 => (1, shape.clusters() / 2 + 1),
         _ => (32, shape.clusters() / 50),
     };
@@ -122,6 +121,11 @@ pub fn with_snapshots(cluster_bits: u32, count: usize, layout: Layout) -> Made {
     snapshots::keep(&mut made, room);
     snapshots::copy_some(&mut made, step);
     made
+}
+
+/// The same of the usual length.
+pub fn with_snapshots(cluster_bits: u32, count: usize, layout: Layout) -> Made {
+    with_snapshots_of(Shape::of(cluster_bits), count, layout)
 }
 
 /// Only the last `keep` clusters are free, and the guest cluster that is

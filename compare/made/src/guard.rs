@@ -1,5 +1,7 @@
 //! A slice lent from the middle of a bigger buffer, whose other bytes must
-//! never change; and the same for numbers.
+//! never change; and the same for numbers and for the state of a check.
+
+use answers::CheckBytes;
 
 /// Odd, so that the lent bytes have no alignment.
 const GUARD: usize = 61;
@@ -66,4 +68,25 @@ pub fn with_numbers<A>(
     let around = buffer[..lent.start].iter().chain(&buffer[lent.end..]);
     assert!(around.copied().all(|number| number == !held), "numbers around changed");
     (buffer[lent].to_vec(), answer)
+}
+
+/// A state with bytes on both sides of it.
+#[repr(C)]
+struct Around {
+    before: [u8; GUARD],
+    state: CheckBytes,
+    after: [u8; GUARD],
+}
+
+/// Lends a copy of the state, and sees that no byte around it changes; the state
+/// afterwards, and the answer.
+pub fn with_state<A>(
+    state: CheckBytes,
+    call: impl FnOnce(&mut CheckBytes) -> A,
+) -> (CheckBytes, A) {
+    let guard: [u8; GUARD] = std::array::from_fn(mark);
+    let mut around = Around { before: guard, state, after: guard };
+    let answer = call(&mut around.state);
+    assert!(around.before == guard && around.after == guard, "bytes around the state changed");
+    (around.state, answer)
 }

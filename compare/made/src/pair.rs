@@ -3,12 +3,13 @@
 
 use std::collections::BTreeMap;
 
-use answers::{Calls, Outcome, Over, STEP};
+use answers::{Calls, Outcome, Over, Portion, STEP};
 
 use crate::backing::NAME_AT;
 use crate::breaks::ORDER;
-use crate::guard::{with_numbers, Guarded};
+use crate::guard::{with_numbers, with_state, Guarded};
 use crate::image::Made;
+use crate::portions::Kept;
 use crate::requests::Request;
 
 pub struct Pair<'c> {
@@ -101,6 +102,27 @@ impl<'c> Pair<'c> {
         }
         same(request, &self.images, Some(&self.before));
         None
+    }
+
+    /// One portion of each side: both begin with what was kept, and leave the same. Where
+    /// the state stays the scratch does.
+    pub fn portion(&mut self, kept: &mut Kept, may: u64) -> Portion {
+        self.calls += 1;
+        let (state, scratch) = (kept.state, kept.scratch.len());
+        let request = &Request::CheckPortion { state, scratch, may };
+        let before = std::mem::take(&mut kept.scratch);
+        let mut states = Vec::new();
+        let (answer, after) = self.over_scratch(request, &before, |side, image, scratch| {
+            let call = |lent: &mut _| side.check_portion(image.lent(), lent, scratch, may);
+            let (after, answer) = with_state(state, call);
+            states.push(after);
+            answer
+        });
+        same(request, &self.images, Some(&self.before));
+        assert!(states[0] == states[1], "states differ, {states:?}: {request:?}");
+        assert!(states[0] != state || after == before, "the scratch changed: {request:?}");
+        *kept = Kept { state: states[0], scratch: after };
+        answer
     }
 
     /// A storing call: the images agree after it, and a refusal or a cut at 0
@@ -199,16 +221,25 @@ impl<'c> Pair<'c> {
         &mut self,
         request: &Request,
         len: usize,
-        mut call: impl FnMut(Over, &mut Guarded, &mut [u8]) -> A,
+        call: impl FnMut(Over, &mut Guarded, &mut [u8]) -> A,
     ) -> A {
-        let before = vec![0x5A; len];
-        let scratch = &mut [Guarded::of(&before), Guarded::of(&before)];
+        self.over_scratch(request, &vec![0x5A; len], call).0
+    }
+
+    /// With a copy of these bytes as the scratch, and what becomes of it.
+    fn over_scratch<A: PartialEq + std::fmt::Debug>(
+        &mut self,
+        request: &Request,
+        before: &[u8],
+        mut call: impl FnMut(Over, &mut Guarded, &mut [u8]) -> A,
+    ) -> (A, Vec<u8>) {
+        let scratch = &mut [Guarded::of(before), Guarded::of(before)];
         let mut lent = scratch.iter_mut();
         let answer = self.answers(request, |side, image| {
             call(side, image, lent.next().expect("two sides").lent_mut())
         });
         same(request, scratch, None);
-        answer
+        (answer, scratch[0].lent().to_vec())
     }
 }
 
@@ -282,8 +313,9 @@ pub fn missing(tally: &BTreeMap<String, u64>) -> Vec<String> {
 /// Name of the call and kind of its answer, with the number of a refusal.
 fn kind(request: &Request, answer: &impl std::fmt::Debug) -> String {
     let answer = format!("{answer:?}");
+    let answer = answer.strip_prefix("Told(").unwrap_or(&answer);
     let refused = answer.starts_with("Refused") || answer.starts_with("Err");
-    let end = if refused { answer.len() } else { answer.find('(').unwrap_or(answer.len()) };
+    let end = if refused { answer.len() } else { answer.find(['(', ')']).unwrap_or(answer.len()) };
     format!("{} {}", request.name(), answer[..end].replace("Err", "Refused"))
 }
 

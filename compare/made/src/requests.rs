@@ -3,6 +3,8 @@
 
 use std::fmt;
 
+use answers::CheckBytes;
+
 use crate::image::Made;
 use crate::rng::Rng;
 
@@ -67,6 +69,12 @@ pub enum Request {
     Check {
         scratch: usize,
     },
+    /// From this state on.
+    CheckPortion {
+        state: CheckBytes,
+        scratch: usize,
+        may: u64,
+    },
 }
 
 /// Like the derived one, with no more than the first bytes of the data.
@@ -105,6 +113,9 @@ impl fmt::Debug for Request {
                 write!(to, " from {old}, allowance {allowance}")
             }
             Request::Check { scratch } => write!(to, " with scratch of {scratch}"),
+            Request::CheckPortion { state, scratch, may } => {
+                write!(to, " of {may} from {:?}, with scratch of {scratch}", state.numbers())
+            }
         }
     }
 }
@@ -145,6 +156,7 @@ impl Request {
             Request::DiscardSteps { .. } => "discard_steps",
             Request::RepairSteps { .. } => "repair_steps",
             Request::Check { .. } => "check",
+            Request::CheckPortion { .. } => "check_portion",
         }
     }
 }

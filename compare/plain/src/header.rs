@@ -1,6 +1,7 @@
 //! The header, judged afresh by every call: numbers 1 to 8, 18, 9, 10, 19 and 21,
 //! tried in this order.
 
+use std::iter;
 use std::ops::{Range, RangeInclusive};
 
 use crate::snapshots::Snapshots;
@@ -124,6 +125,11 @@ impl<'b> Header<'b> {
     #[inline]
     pub fn under(&self, offset: u64) -> &'b [u8] {
         self.backing.get(offset as usize..).unwrap_or_default()
+    }
+
+    /// The active disk and those of the snapshots.
+    pub fn disks(&self) -> impl Iterator<Item = Disk> + '_ {
+        iter::once(self.disk).chain(self.snapshots.disks.iter().copied())
     }
 
     /// Guest clusters that begin below the disk's end.

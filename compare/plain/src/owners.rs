@@ -21,6 +21,17 @@ pub(crate) trait Owners {
     fn lowest_shared(&self, figures: &[Figure]) -> Option<usize>;
 }
 
+/// Nothing is noted.
+pub(crate) struct Unknown;
+
+impl Owners for Unknown {
+    fn note(&mut self, _: usize, _: u16, _: Owner) {}
+
+    fn lowest_shared(&self, _: &[Figure]) -> Option<usize> {
+        None
+    }
+}
+
 /// With one L1 table no cluster may have two references.
 #[derive(Default)]
 pub(crate) struct OneDisk {

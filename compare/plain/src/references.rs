@@ -19,7 +19,7 @@ pub(crate) struct Count<'a, O> {
 }
 
 impl<'a, O: Owners> Count<'a, O> {
-    /// Counts into figures that are 0.
+    /// Adds to the figures.
     pub fn new(
         header: &'a Header<'a>,
         image: &'a [u8],
@@ -32,10 +32,7 @@ impl<'a, O: Owners> Count<'a, O> {
     pub fn all(&mut self) {
         self.fixed_structures();
         let header = self.header;
-        self.tables(0, header.disk);
-        for (snapshot, disk) in header.snapshots.disks.iter().enumerate() {
-            self.tables(snapshot + 1, *disk);
-        }
+        header.disks().enumerate().for_each(|(number, disk)| self.tables(number, disk));
     }
 
     fn refer(&mut self, place: usize, owner: Owner) {
@@ -52,7 +49,7 @@ impl<'a, O: Owners> Count<'a, O> {
     }
 
     /// Header cluster, refcount table and blocks, L1 tables, snapshot table.
-    fn fixed_structures(&mut self) {
+    pub fn fixed_structures(&mut self) {
         let header = self.header;
         self.refer(0, Owner::Fixed);
         self.structure(header.table_at, header.table_clusters << header.cluster_bits);
@@ -66,20 +63,26 @@ impl<'a, O: Owners> Count<'a, O> {
         self.structure(header.snapshots.table.start, header.snapshots.table.len());
     }
 
-    /// L1 entries and the L2 entries below them.
     fn tables(&mut self, number: usize, disk: Disk) {
         let rules = Rules::of(self.header);
         for l1_index in 0..disk.l1_size {
-            let entry = be64(self.image, disk.l1_at + 8 * l1_index);
-            match rules.l1(entry) {
-                Some(0) => {}
-                Some(table) => {
-                    self.unmarked |= entry & USED == 0;
-                    self.refer(table, Owner::Table { disk: number });
-                    self.table(&rules, (number, l1_index), table);
-                }
-                None => _ = self.bad.get_or_insert(bad_l1(number, l1_index)),
+            self.entry(&rules, number, disk, l1_index);
+        }
+    }
+
+    /// An L1 entry and the L2 entries below it. Disk 0 is the active one, the next is
+    /// that of snapshot 0.
+    #[inline]
+    pub fn entry(&mut self, rules: &Rules, number: usize, disk: Disk, l1_index: usize) {
+        let entry = be64(self.image, disk.l1_at + 8 * l1_index);
+        match rules.l1(entry) {
+            Some(0) => {}
+            Some(table) => {
+                self.unmarked |= entry & USED == 0;
+                self.refer(table, Owner::Table { disk: number });
+                self.table(rules, (number, l1_index), table);
             }
+            None => _ = self.bad.get_or_insert(bad_l1(number, l1_index)),
         }
     }
 
@@ -119,7 +122,6 @@ fn refer(figure: &mut Figure) -> u16 {
     before
 }
 
-/// Disk 0 is the active one, the next is that of snapshot 0.
 fn bad_l1(disk: usize, l1_index: usize) -> Verdict {
     let l1 = l1_index as u64;
     match disk.checked_sub(1) {

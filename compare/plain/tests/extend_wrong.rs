@@ -3,14 +3,14 @@
 #![forbid(unsafe_code)]
 
 use std::cell::Cell;
-use std::panic::{catch_unwind, AssertUnwindSafe};
 
 use made::extend_drive::{compare, follow};
+use made::fault::found;
 use made::pair::Pair;
 use made::rng::Rng;
 use plain::{
-    backing_name, check, difference, discard, discard_steps, geometry, lookup, read, read_snapshot,
-    repair, repair_steps, runs, translate, write, write_steps, Outcome, Plain,
+    backing_name, check, check_portion, difference, discard, discard_steps, geometry, lookup, read,
+    read_snapshot, repair, repair_steps, runs, translate, write, write_steps, Outcome, Plain,
 };
 
 const ALL: u64 = u64::MAX;
@@ -191,13 +191,6 @@ fn one_by_one(image: &[u8], old: u64, block: u64) -> (Outcome, Vec<u8>) {
             refused => return (refused, image),
         }
     }
-}
-
-/// What the work ends with, if it panics.
-fn found(work: impl FnOnce()) -> String {
-    let Err(payload) = catch_unwind(AssertUnwindSafe(work)) else { return String::new() };
-    let words = payload.downcast_ref::<&str>().map(|&words| words.into());
-    words.or_else(|| payload.downcast_ref().cloned()).unwrap_or_default()
 }
 
 #[test]

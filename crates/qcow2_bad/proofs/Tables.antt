@@ -10,12 +10,12 @@ use lib.ListN.{length}
 use Rattle.qcow2_spec.specs.Header.{mostSnapshots, roots, rootSize, version, clusterSize}
 use Rattle.qcow2_spec.specs.Entries.{goodL2}
 use Rattle.qcow2_spec.specs.References.{l1Entries}
-use Rattle.qcow2_spec.specs.Check.{l1Verdict, badIn, rootsVerdict, tableGood, entryGood}
+use Rattle.qcow2_spec.specs.Check.{orElse, l1Verdict, badIn, rootsVerdict, tableGood, entryGood}
 use Rattle.qcow2_spec.specs.Opened.{Opened}
 use Rattle.qcow2_spec.specs.declared.Geometry.{Geometry}
 use Rattle.qcow2_spec.specs.declared.Verdict.{Verdict}
 use Rattle.qcow2_spec.specs.declared.Verdict.the-variants.{Sound, Leaks, BadL1, BadL2, Shared, Short, MarkL1, MarkL2, Refused}
-use Rattle.qcow2_spec.proofs.Else.{orElse, bad-damage, l1-else}
+use Rattle.qcow2_spec.proofs.Else.{bad-damage, l1-else}
 use Rattle.qcow2_spec.proofs.Facts.{facts, root-count}
 use Rattle.qcow2_marks.specs.Marks.{UnharmedTo, GoodTo, unharmed}
 use Rattle.qcow2_fails.specs.Seeks.{BelowTo}

@@ -18,6 +18,8 @@ ghost use Rattle.qcow2_longer.specs.Extend.{extendPlan};
 ghost use Rattle.qcow2_spec.specs.References.{scratchLeft};
 ghost use Rattle.qcow2_spec.specs.Check.{check, repairPlan};
 ghost use Rattle.qcow2_spec.specs.Steps.{listSteps, stepsInto};
+ghost use Rattle.qcow2_portion.specs.State.{scratchPortion};
+ghost use Rattle.qcow2_kept.specs.Kept.{portionOf, stateOf, keptAfter, answerCode, answerFirst, answerSecond, answerThird};
 ghost use Rattle.qcow2_codes.specs.Codes.{listedCode, listedRows, outcomeCode, outcomeUnits, verdictCode, verdictFirst, verdictSecond, verdictThird};
 use qcow2_spec::Judged;
 
@@ -148,6 +150,28 @@ pub extern "C" fn qcow2_backed_check(
 {
     let v = qcow2::check(image, backing, scratch);
     qcow2_codes::put_verdict(v, first, second, third)
+}
+
+// One portion of a check. The state is any bytes, all 0 for a new one; they change where a portion that may take entries is accepted and the check was not
+// finished.
+#[no_mangle]
+pub extern "C" fn qcow2_backed_check_portion(
+    image: &[u8],
+    backing: &[u8],
+    state: &mut [u8; 56],
+    scratch: &mut [u8],
+    may: u64,
+    first: &mut u64,
+    second: &mut u64,
+    third: &mut u64,
+) -> u32
+    ensures { λ r. ⌜ (((r ≡ answerCode (portionOf (now (backing .entry)) (now (image .entry)) (now (state .entry)) (now (scratch .entry)) may .answer)) × (now (first .exit) ≡ answerFirst (portionOf (now (backing .entry)) (now (image .entry)) (now (state .entry)) (now (scratch .entry)) may .answer))) × ((now (second .exit) ≡ answerSecond (portionOf (now (backing .entry)) (now (image .entry)) (now (state .entry)) (now (scratch .entry)) may .answer)) × (now (third .exit) ≡ answerThird (portionOf (now (backing .entry)) (now (image .entry)) (now (state .entry)) (now (scratch .entry)) may .answer)))) × ((now (state .exit) ≡ keptAfter (now (state .entry)) (stateOf (now (state .entry))) may (portionOf (now (backing .entry)) (now (image .entry)) (now (state .entry)) (now (scratch .entry)) may)) × (now (scratch .exit) ≡ scratchPortion (now (backing .entry)) (now (image .entry)) (stateOf (now (state .entry))) (now (scratch .entry)) may)) ⌝ }
+{
+    let st = qcow2_kept::load(state);
+    let p = st.portion(image, backing, scratch, may as usize);
+    qcow2_kept::keep(state, st, may as usize, p);
+    let a = p.answer;
+    qcow2_kept::put_answer(a, first, second, third)
 }
 
 // A stored count less the scratch's figure, with its sign: below zero the cluster is short.

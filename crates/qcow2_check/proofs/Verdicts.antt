@@ -12,10 +12,10 @@ use Rattle.endian.proofs.Entries.{be64-drop}
 use Rattle.qcow2_spec.specs.Header.{version, clusterSize, snapshots, roots, rootSize, rootAt}
 use Rattle.qcow2_spec.specs.Entries.{place, goodL1, goodL2}
 use Rattle.qcow2_spec.specs.References.{l1Entries, l2Entries, figuresOf}
-use Rattle.qcow2_spec.specs.Check.{tableGood, entryGood, l2Verdict, entryVerdict, l1Verdict, badIn, rootsVerdict, countsVerdict, verdict}
+use Rattle.qcow2_spec.specs.Check.{orElse, tableGood, entryGood, l2Verdict, entryVerdict, l1Verdict, badIn, rootsVerdict, countsVerdict, verdict}
 use Rattle.qcow2_spec.specs.declared.Verdict.{Verdict}
 use Rattle.qcow2_spec.specs.declared.Verdict.the-variants.{Sound, BadL1, BadL2}
-use Rattle.qcow2_spec.proofs.Else.{orElse, roots-else}
+use Rattle.qcow2_spec.proofs.Else.{roots-else}
 use Rattle.qcow2_spec.proofs.Facts.{all-entries}
 use Rattle.qcow2_refs.specs.Walks.{rowAt}
 use Rattle.qcow2_bad.specs.Known.{sound}
@@ -70,11 +70,13 @@ module _ (s : List ℕ) where
       let k = entry-sound i e (l1Verdict s (badIn s 0) (suc i) es next) h in
       rw (k .0) (rows-sound (suc i) es next (k .1))
 
+  pub sound-all : rootsVerdict s 0 (roots s) Sound ≡ Sound → all (entryGood s) (l1Entries s 0) ≡ true
+  unfolding rootsVerdict roots
+  sound-all h = rows-sound 0 (l1Entries s 0) (rootsVerdict s 1 (snapshots s) Sound) h
+
   sound-good : rootsVerdict s 0 (roots s) Sound ≡ Sound → AllGood s
-  unfolding rootsVerdict roots l1Entries rowAt
-  sound-good h i l =
-      rw (be64-drop s (rootAt s 0) (8 * i)) at
-      (all-entries (entryGood s) (rootSize s 0) (drop (rootAt s 0) s) (rows-sound 0 (entries (rootSize s 0) (drop (rootAt s 0) s)) (rootsVerdict s 1 (snapshots s) Sound) h) i l)
+  unfolding l1Entries rowAt
+  sound-good h i l = rw (be64-drop s (rootAt s 0) (8 * i)) at (all-entries (entryGood s) (rootSize s 0) (drop (rootAt s 0) s) (sound-all h) i l)
 
 pub all-good : (s : List ℕ) (v : Verdict) → v ≡ rootsVerdict s 0 (roots s) Sound → sound v ≡ true → AllGood s
 all-good s v e h = sound-good s (sym e ∙ sound-is v h)

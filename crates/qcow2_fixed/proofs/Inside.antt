@@ -1,17 +1,16 @@
--- The L1 tables and the snapshot table of an accepted image lie among its clusters.
+-- The L1 tables, the refcount table and the snapshot table of an accepted image lie inside it.
 -- Assumes nothing.
-use Prim.Native.Nat.{ℕ, zero, suc, _+_, _-_, _*_, _/_, _%_, _^_, _≤_}
+use Prim.Native.Nat.{ℕ, zero, suc, _+_, _*_, _^_, _≤_}
 use mathlib.Core.Path.{_≡_, refl, sym, _∙_}
 use mathlib.Core.Logic.{_≢_}
 use mathlib.Core.List.{List}
 use native.Mathlib.Omega.{arith}
 use lib.ListN.{length}
-use Rattle.choice.specs.Pick.{ceilDiv}
-use Rattle.qcow2_spec.specs.Header.{mostL1, mostSnapshots, snapshots, snapshotAt, roots}
+use Rattle.qcow2_spec.specs.Header.{mostLength, mostL1, mostSnapshots, snapshots, snapshotAt, roots}
 use Rattle.qcow2_spec.specs.Opened.{Opened}
 use Rattle.qcow2_spec.specs.declared.Geometry.{Geometry}
 use Rattle.qcow2_spec.proofs.Facts.{Facts, facts, root-count, shot-start, shot-before}
-use Rattle.qcow2_fixed.proofs.Runs.{run-ceil}
+use Rattle.qcow2_fixed.proofs.Runs.{few-clusters}
 
 module _ (g : Geometry) (s : List ℕ) (o : Opened g s) where
   f : Facts s
@@ -26,8 +25,14 @@ module _ (g : Geometry) (s : List ℕ) (o : Opened g s) where
   pub root-short : g .l1size ≤ mostL1
   root-short = omega (arith, o .is-l1size, o .few)
 
-  pub root-fits : g .l1at / 2 ^ g .bits + ceilDiv (8 * g .l1size) (2 ^ g .bits) ≤ g .clusters
-  root-fits = run-ceil (g .l1at) (g .clusters) (g .bits) (o .l1-whole) (8 * g .l1size) (omega (arith, o .l1-fits, o .is-l1at, o .is-l1size, o .whole))
+  pub root-near : g .l1at ≤ mostLength
+  root-near = omega (arith, o .is-l1at, o .l1-fits, o .short)
+
+  pub table-near : g .tableat ≤ mostLength
+  table-near = omega (arith, o .table-fits, o .short)
+
+  pub table-short : g .tableclusters ≤ mostLength
+  table-short = omega (arith, few-clusters (g .tableclusters * 2 ^ g .bits) (g .tableclusters) (g .bits) refl, o .table-fits, o .short)
 
   module _ (some : g .snapshots ≢ 0) where
     ends : (n : ℕ) → n ≡ snapshots s → snapshotAt s n ≤ length s
@@ -39,11 +44,3 @@ module _ (g : Geometry) (s : List ℕ) (o : Opened g s) where
 
     pub shots-after : g .snapshotsat ≤ snapshotAt s (snapshots s)
     shots-after = omega (arith, o .is-snapshotsat, shot-start s f, shot-before s f (snapshots s) 0 (omega arith))
-
-    starts : g .snapshotsat % 2 ^ g .bits ≡ 0
-    starts = rw (o .is-snapshotsat, o .is-cluster) (f .shots-whole (λ e. some (o .is-snapshots ∙ e)))
-
-    pub shots-fit : (end : ℕ) → end ≡ snapshotAt s (snapshots s)
-        → g .snapshotsat / 2 ^ g .bits + ceilDiv (end - g .snapshotsat) (2 ^ g .bits) ≤ g .clusters
-    shots-fit end e =
-        run-ceil (g .snapshotsat) (g .clusters) (g .bits) starts (end - g .snapshotsat) (omega (arith, shots-after, shots-inside, e, o .whole))

@@ -1,56 +1,68 @@
--- Laws of runs of clusters and of the references that the header and the tables give.
+-- Laws of runs of clusters and of the references that the header and the tables give, visited in a window.
 -- Assumes nothing.
-use Prim.Native.Nat.{ℕ, zero, suc, _+_, _-_, _*_, _/_, _%_, _^_, _≤_, _<_}
+use Prim.Native.Nat.{ℕ, zero, suc, _+_, _-_, _*_, _/_, _^_, _≤_, _<_}
 use mathlib.Core.Path.{_≡_, refl, sym}
 use mathlib.Core.List.{List}
-use native.Mathlib.Nat.{zero-mul, add-mul, mul-one, mul-le-mul-left, lt-of-mul-lt-mul-right, div-mul-le-self, div-add-mod'}
+use native.Mathlib.Nat.{mul-one, mul-le-mul-left, div-mul-le-self, div-add-mod'}
 use native.Mathlib.Omega.{arith}
+use borrow.Author.Tests.{eq-eqb, ne-eqb}
 use lib.Pow.{pow-pos}
-use lib.ListN.{take}
+use lib.ListN.{take, drop}
 use Rattle.choice.specs.Pick.{ceilDiv}
+use Rattle.endian.specs.Big.{be64, entries}
+use Rattle.endian.proofs.Entries.{entries-turn, entries-none}
 use Rattle.tally.specs.Tally.{run, joined}
-use Rattle.tally.specs.States.{visited, visitAll}
-use Rattle.tally.proofs.States.{visitAll-append}
+use Rattle.window.specs.Window.{Board, visitedIn, visitAllIn}
+use Rattle.window.proofs.Steps.{visitAllIn-append}
 use Rattle.qcow2_spec.specs.Header.{clusterSize, tableAt, tableClusters, blocks, table, snapshots, snapshotsAt, snapshotAt, roots, rootAt, rootSize}
 use Rattle.qcow2_spec.specs.References.{named, rootRun, snapshotRun, fixedRefs}
 
--- a run of clusters that starts at a cluster's start and ends inside an image of N clusters
-module _ (at N b : ℕ) (e : at % 2 ^ b ≡ 0) where
-  fits : (m : ℕ) → at + m * 2 ^ b < (N + 1) * 2 ^ b → at / 2 ^ b + m ≤ N
-  fits m h =
-      let C : ℕ = 2 ^ b in
-      let k : (at / C + m) * C < (N + 1) * C = rw add-mul (omega (arith, div-add-mod' at C)) in
-      omega (arith, lt-of-mul-lt-mul-right C k)
-
-  pub run-fits : (m : ℕ) → at + m * 2 ^ b ≤ N * 2 ^ b → at / 2 ^ b + m ≤ N
-  run-fits m h = fits m (rw add-mul (omega (arith, pow-pos b)))
-
-  pub run-ceil : (x : ℕ) → at + x ≤ N * 2 ^ b → at / 2 ^ b + ceilDiv x (2 ^ b) ≤ N
-  run-ceil x h =
-      let C : ℕ = 2 ^ b in
-      fits (ceilDiv x C) (rw add-mul (omega (arith, pow-pos b, div-mul-le-self (x + (C - 1)) C)))
-
--- an image of n bytes has some clusters, and not more than bytes
-pub some-clusters : (n N C : ℕ) → 1 ≤ n → n ≡ N * C → 0 < N
-some-clusters n zero C h e = absurd (omega (arith, rw zero-mul at e))
-some-clusters n (suc N) C h e = omega arith
-
+-- not more clusters than bytes: of an image of n bytes, and that x bytes need
 pub few-clusters : (n N b : ℕ) → n ≡ N * 2 ^ b → N ≤ n
 few-clusters n N b e = omega (arith, mul-le-mul-left N (pow-pos b), mul-one N)
 
--- what is to be visited from L1 table t of n on: table t first; nothing at the end
-module _ (kind : ℕ) (f : ℕ → List ℕ) (n t : ℕ) where
-  pub roots-turn : t < n → (s : List ℕ)
-      → visitAll kind (joined f (run t (n - t))) s ≡ visitAll kind (joined f (run (t + 1) (n - (t + 1)))) (visitAll kind (f t) s)
-  unfolding run
-  roots-turn h s =
-      let e : n - t ≡ suc (n - (t + 1)) = omega arith in
-      let g : suc t ≡ t + 1 = omega arith in
-      rw (e, g) (visitAll-append kind (f t) (joined f (run (t + 1) (n - (t + 1)))) s)
+pub few-needed : (x b : ℕ) → ceilDiv x (2 ^ b) ≤ x
+few-needed x b = below (ceilDiv x (2 ^ b)) (div-mul-le-self (x + (2 ^ b - 1)) (2 ^ b))
+  where
+    below : (q : ℕ) → q * 2 ^ b ≤ x + (2 ^ b - 1) → q ≤ x
+    below zero h = omega arith
+    below (suc q) h = omega (arith, h, pow-pos b, mul-le-mul-left q (pow-pos b), mul-one q)
 
-  pub roots-end : n ≤ t → (s : List ℕ) → visitAll kind (joined f (run t (n - t))) s ≡ s
-  unfolding run visitAll
-  roots-end h s = let e : n - t ≡ 0 = omega arith in rw e
+module _ (kind b : ℕ) (f : ℕ → List ℕ) where
+  -- what is to be visited from L1 table t of n on: table t first; nothing at the end
+  module _ (n t : ℕ) (w : Board) where
+    pub roots-turn : t < n
+        → visitAllIn kind b (joined f (run t (n - t))) w ≡ visitAllIn kind b (joined f (run (t + 1) (n - (t + 1)))) (visitAllIn kind b (f t) w)
+    unfolding run
+    roots-turn h =
+        let e : n - t ≡ suc (n - (t + 1)) = omega arith in
+        let g : suc t ≡ t + 1 = omega arith in
+        rw (e, g) (visitAllIn-append kind b (f t) (joined f (run (t + 1) (n - (t + 1)))) w)
+
+    pub roots-end : n ≤ t → visitAllIn kind b (joined f (run t (n - t))) w ≡ w
+    unfolding run visitAllIn
+    roots-end h = let e : n - t ≡ 0 = omega arith in rw e
+
+  -- and from entry j of k on
+  module _ (k j : ℕ) (t : List ℕ) (w : Board) where
+    pub refs-turn : j < k
+        → visitAllIn kind b (joined f (entries (k - j) (drop (8 * j) t))) w
+        ≡ visitAllIn kind b (joined f (entries (k - (j + 1)) (drop (8 * (j + 1)) t))) (visitAllIn kind b (f (be64 t (8 * j))) w)
+    refs-turn h = rw (entries-turn k j t h) (visitAllIn-append kind b (f (be64 t (8 * j))) _ w)
+
+    pub refs-end : k ≤ j → visitAllIn kind b (joined f (entries (k - j) (drop (8 * j) t))) w ≡ w
+    unfolding visitAllIn
+    refs-end h = rw (entries-none k j t h)
+
+-- what a place names
+module _ (kind b C p : ℕ) (w : Board) where
+  pub named-none : p ≡ 0 → w ≡ visitAllIn kind b (named C p) w
+  unfolding named visitAllIn
+  named-none e = rw (eq-eqb p 0 e)
+
+  pub named-some : (p ≡ 0 → ⊥) → visitedIn kind b (p / C) w ≡ visitAllIn kind b (named C p) w
+  unfolding named visitAllIn
+  named-some e = rw (ne-eqb p 0 e)
 
 -- one L1 table's clusters, and the snapshot table's, in the numbers that the code has
 pub root-run : (s : List ℕ) (t at size C : ℕ) → at ≡ rootAt s t → size ≡ rootSize s t → C ≡ clusterSize s
@@ -64,9 +76,9 @@ unfolding snapshotRun
 snapshot-run s at end C a b c = rw (a, b, c)
 
 -- no snapshots, no clusters of their table
-pub snapshot-none : (s : List ℕ) (kind : ℕ) (Z : List ℕ) → snapshots s ≡ 0 → 0 < clusterSize s → Z ≡ visitAll kind (snapshotRun s) Z
-unfolding snapshotRun snapshotAt visitAll run
-snapshot-none s kind Z e h =
+pub snapshot-none : (s : List ℕ) (kind b : ℕ) (w : Board) → snapshots s ≡ 0 → 0 < clusterSize s → w ≡ visitAllIn kind b (snapshotRun s) w
+unfolding snapshotRun snapshotAt visitAllIn run
+snapshot-none s kind b w e h =
     let C : ℕ = clusterSize s in
     let d : snapshotsAt s - snapshotsAt s + (C - 1) ≡ C - 1 = omega arith in
     let q : (C - 1) / C ≡ 0 = few ((C - 1) / C) (omega (arith, div-add-mod' (C - 1) C)) in
@@ -77,18 +89,18 @@ snapshot-none s kind Z e h =
     few (suc q) l = absurd (omega arith)
 
 -- the fixed references, run by run
-fixed-runs : (s Z : List ℕ) (kind : ℕ) → visitAll kind (fixedRefs s) Z
-    ≡ visitAll kind (joined (named (clusterSize s)) (take (blocks s) (table s)))
-    (visitAll kind (snapshotRun s)
-    (visitAll kind (joined (rootRun s) (run 0 (roots s)))
-    (visitAll kind (run (tableAt s / clusterSize s) (tableClusters s)) (visited kind Z 0))))
-unfolding fixedRefs visitAll
-fixed-runs s Z kind = simp visitAll-append
+fixed-runs : (s : List ℕ) (kind b : ℕ) (w : Board) → visitAllIn kind b (fixedRefs s) w
+    ≡ visitAllIn kind b (joined (named (clusterSize s)) (take (blocks s) (table s)))
+    (visitAllIn kind b (snapshotRun s)
+    (visitAllIn kind b (joined (rootRun s) (run 0 (roots s)))
+    (visitAllIn kind b (run (tableAt s / clusterSize s) (tableClusters s)) (visitedIn kind b 0 w))))
+unfolding fixedRefs visitAllIn
+fixed-runs s kind b w = simp visitAllIn-append
 
 -- the same in the numbers that the code has
-pub fixed-all : (s Z : List ℕ) (kind at span C : ℕ) → at ≡ tableAt s → span ≡ tableClusters s → C ≡ clusterSize s
-    → visitAll kind (joined (named (clusterSize s)) (take (blocks s) (table s)))
-    (visitAll kind (snapshotRun s)
-    (visitAll kind (joined (rootRun s) (run 0 (roots s))) (visitAll kind (run (at / C) span) (visited kind Z 0))))
-    ≡ visitAll kind (fixedRefs s) Z
-fixed-all s Z kind at span C c d e = rw (c, d, e) (sym (fixed-runs s Z kind))
+pub fixed-all : (s : List ℕ) (kind b : ℕ) (w : Board) (at span C : ℕ) → at ≡ tableAt s → span ≡ tableClusters s → C ≡ clusterSize s
+    → visitAllIn kind b (joined (named (clusterSize s)) (take (blocks s) (table s)))
+    (visitAllIn kind b (snapshotRun s)
+    (visitAllIn kind b (joined (rootRun s) (run 0 (roots s))) (visitAllIn kind b (run (at / C) span) (visitedIn kind b 0 w))))
+    ≡ visitAllIn kind b (fixedRefs s) w
+fixed-all s kind b w at span C c d e = rw (c, d, e) (sym (fixed-runs s kind b w))

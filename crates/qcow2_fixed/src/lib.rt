@@ -1,9 +1,9 @@
-// Visiting the fixed places: cluster 0, the clusters of the tables and the refcount blocks. A kind of 0 counts alone.
+// Visiting the fixed places in a window: cluster 0, the clusters of the tables and the refcount blocks. Each returns the lowest cluster that was reached again.
 ghost use mathlib.Core.Path.{_≡_};
-ghost use Prim.Native.Nat.{_+_, _*_, _/_, _^_, _≤_, _<_};
-ghost use lib.ListN.{length, take, replicate};
+ghost use Prim.Native.Nat.{_^_, _≤_};
+ghost use lib.ListN.{take};
 ghost use Rattle.tally.specs.Tally.{joined};
-ghost use Rattle.tally.specs.States.{visitAll};
+ghost use Rattle.window.specs.Window.{board, visitAllIn};
 ghost use Rattle.qcow2_spec.specs.Header.{mostBits, clusterSize, blocks as blocksOf, table as tableOf};
 ghost use Rattle.qcow2_spec.specs.References.{named, fixedRefs};
 ghost use Rattle.qcow2_spec.specs.Opened.{Opened, Active};
@@ -13,38 +13,53 @@ mod spans;
 mod tables;
 
 // Visits the cluster that a place names, where it names one.
-fn visit_place(scratch: &mut [u8], p: u64, bits: u32, kind: u16)
-    requires { ⌜ (bits ≤ mostBits) × ((2 * (p / 2 ^ bits) + 2 ≤ length (now scratch)) × (kind < 512)) ⌝ }
-    ensures { λ _. ⌜ now (scratch .exit) ≡ visitAll kind (named (2 ^ bits) p) (now (scratch .entry)) ⌝ }
+fn visit_place(target: &mut [u8], low: usize, p: u64, bits: u32, kind: u16, b: usize) -> usize
+    requires { ⌜ (bits ≤ mostBits) × (kind ≤ 512) ⌝ }
+    ensures { λ r. ⌜ board (now (target .exit)) r ≡ visitAllIn kind b (named (2 ^ bits) p) (board (now (target .entry)) low) ⌝ }
 {
     if p == 0 {
-        return;
+        return low;
     }
-    visits::visit(scratch, power::quotient(p, bits) as usize, kind);
+    window::visit(target, low, b, power::quotient(p, bits) as usize, kind)
 }
 
 // Visits the refcount blocks.
-fn visit_blocks(image: &[u8], scratch: &mut [u8], g: Geometry, kind: u16)
-    requires { ⌜ Opened g (now image) × ((length (now scratch) ≡ 2 * g .clusters) × (kind < 512)) ⌝ }
-    ensures { λ _. ⌜ now (scratch .exit) ≡ visitAll kind (joined (named (clusterSize (now (image .entry)))) (take (blocksOf (now (image .entry))) (tableOf (now (image .entry))))) (now (scratch .entry)) ⌝ }
+fn visit_blocks(
+    image: &[u8],
+    target: &mut [u8],
+    low: usize,
+    g: Geometry,
+    kind: u16,
+    b: usize,
+) -> usize
+    requires { ⌜ Opened g (now image) × (kind ≤ 512) ⌝ }
+    ensures { λ r. ⌜ board (now (target .exit)) r ≡ visitAllIn kind b (joined (named (clusterSize (now (image .entry)))) (take (blocksOf (now (image .entry))) (tableOf (now (image .entry))))) (board (now (target .entry)) low) ⌝ }
 {
-    let mut b = 0;
-    while b < g.blocks {
-        let at = qcow2_counts::block_at(image, g, b);
-        visit_place(scratch, at as u64, g.bits, kind);
-        b += 1;
+    let mut least = low;
+    let mut i = 0;
+    while i < g.blocks {
+        let at = qcow2_counts::block_at(image, g, i);
+        least = visit_place(target, least, at as u64, g.bits, kind, b);
+        i += 1;
     }
+    least
 }
 
-// Visits cluster 0, the tables' clusters and the blocks in a cleared scratch.
-pub fn visit_fixed(image: &[u8], scratch: &mut [u8], g: Geometry, kind: u16)
-    requires { ⌜ Active g (now image) × ((length (now scratch) ≡ 2 * g .clusters) × (kind < 512)) ⌝ }
-    ensures { λ _. ⌜ now (scratch .exit) ≡ visitAll kind (fixedRefs (now (image .entry))) (replicate (2 * g .clusters) 0) ⌝ }
+// Visits cluster 0, the tables' clusters and the blocks.
+pub fn visit_fixed(
+    image: &[u8],
+    target: &mut [u8],
+    low: usize,
+    g: Geometry,
+    kind: u16,
+    b: usize,
+) -> usize
+    requires { ⌜ Active g (now image) × (kind ≤ 512) ⌝ }
+    ensures { λ r. ⌜ board (now (target .exit)) r ≡ visitAllIn kind b (fixedRefs (now (image .entry))) (board (now (target .entry)) low) ⌝ }
 {
-    tally::clear(scratch);
-    visits::visit(scratch, 0, kind);
-    spans::visit_clusters(scratch, g.tableat, g.tableclusters, g.bits, kind);
-    tables::visit_roots(image, scratch, g, kind);
-    tables::visit_snapshots(image, scratch, g, kind);
-    visit_blocks(image, scratch, g, kind);
+    let first = window::visit(target, low, b, 0, kind);
+    let counts = spans::visit_clusters(target, first, g.tableat, g.tableclusters, g.bits, kind, b);
+    let roots = tables::visit_roots(image, target, counts, g, kind, b);
+    let shots = tables::visit_snapshots(image, target, roots, g, kind, b);
+    visit_blocks(image, target, shots, g, kind, b)
 }

@@ -1,19 +1,26 @@
 // Visiting clusters that stand side by side.
 ghost use mathlib.Core.Path.{_≡_};
-ghost use Prim.Native.Nat.{_+_, _*_, _/_, _^_, _≤_, _<_};
-ghost use lib.ListN.{length};
+ghost use Prim.Native.Nat.{_/_, _^_, _≤_};
 ghost use Rattle.choice.specs.Pick.{ceilDiv};
 ghost use Rattle.tally.specs.Tally.{run};
-ghost use Rattle.tally.specs.States.{visitAll};
+ghost use Rattle.window.specs.Window.{board, visitAllIn};
 ghost use Rattle.qcow2_spec.specs.Header.{mostBits, mostLength};
 
 // Visits a number of clusters from a place on.
-pub fn visit_clusters(scratch: &mut [u8], at: usize, span: usize, bits: u32, kind: u16)
-    requires { ⌜ (bits ≤ mostBits) × ((2 * (at / 2 ^ bits + span) ≤ length (now scratch)) × (kind < 512)) ⌝ }
-    ensures { λ _. ⌜ now (scratch .exit) ≡ visitAll kind (run (at / 2 ^ bits) span) (now (scratch .entry)) ⌝ }
+pub fn visit_clusters(
+    target: &mut [u8],
+    low: usize,
+    at: usize,
+    span: usize,
+    bits: u32,
+    kind: u16,
+    b: usize,
+) -> usize
+    requires { ⌜ ((bits ≤ mostBits) × (kind ≤ 512)) × ((at ≤ mostLength) × (span ≤ mostLength)) ⌝ }
+    ensures { λ r. ⌜ board (now (target .exit)) r ≡ visitAllIn kind b (run (at / 2 ^ bits) span) (board (now (target .entry)) low) ⌝ }
 {
     let k = power::quotient(at as u64, bits) as usize;
-    visits::visit_run(scratch, k, span, kind);
+    window::visit_run(target, low, b, k, span, kind)
 }
 
 // The clusters that a number of bytes needs.
@@ -26,9 +33,17 @@ fn clusters_of(bytes: usize, bits: u32) -> usize
 }
 
 // Visits the clusters of a number of bytes from a place on.
-pub fn visit_bytes(scratch: &mut [u8], at: usize, bytes: usize, bits: u32, kind: u16)
-    requires { ⌜ ((bits ≤ mostBits) × (bytes ≤ mostLength)) × ((2 * (at / 2 ^ bits + ceilDiv bytes (2 ^ bits)) ≤ length (now scratch)) × (kind < 512)) ⌝ }
-    ensures { λ _. ⌜ now (scratch .exit) ≡ visitAll kind (run (at / 2 ^ bits) (ceilDiv bytes (2 ^ bits))) (now (scratch .entry)) ⌝ }
+pub fn visit_bytes(
+    target: &mut [u8],
+    low: usize,
+    at: usize,
+    bytes: usize,
+    bits: u32,
+    kind: u16,
+    b: usize,
+) -> usize
+    requires { ⌜ ((bits ≤ mostBits) × (kind ≤ 512)) × ((at ≤ mostLength) × (bytes ≤ mostLength)) ⌝ }
+    ensures { λ r. ⌜ board (now (target .exit)) r ≡ visitAllIn kind b (run (at / 2 ^ bits) (ceilDiv bytes (2 ^ bits))) (board (now (target .entry)) low) ⌝ }
 {
-    visit_clusters(scratch, at, clusters_of(bytes, bits), bits, kind);
+    visit_clusters(target, low, at, clusters_of(bytes, bits), bits, kind, b)
 }

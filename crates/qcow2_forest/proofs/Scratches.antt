@@ -1,6 +1,6 @@
 -- What the walks over all L1 tables leave in a scratch.
 -- Assumes nothing.
-use Prim.Native.Nat.{ℕ, zero, suc, _*_, _/_, _≤_}
+use Prim.Native.Nat.{ℕ, zero, suc, _*_, _/_, _≤_, _<_}
 use mathlib.Core.Path.{_≡_, refl, sym, ap, _∙_}
 use mathlib.Core.Bool.{true, false}
 use mathlib.Core.List.{List, _++_}
@@ -13,13 +13,24 @@ use Rattle.tally.specs.Tally.{run, joined, wide, bumpAllWide}
 use Rattle.tally.specs.States.{fixedKind, badMark, visitAll, treeVisited, forestVisited, unpacked}
 use Rattle.tally.proofs.States.{visitAll-count, bumpAllWide-append, treeVisited-count, length-visitAll, length-forestVisited}
 use Rattle.tally.proofs.Wide.{tallied-wide}
+use Rattle.window.specs.Window.{Board, board, visitAllIn}
+use Rattle.window.proofs.Numbers.{visitAllIn-whole}
 use Rattle.qcow2_spec.specs.Header.{clusters, snapshots, roots}
 use Rattle.qcow2_spec.specs.References.{l1Entries, l1Refs, fixedRefs, rootRefs, references, figuresOf}
 use Rattle.qcow2_spec.specs.Check.{sharedAt}
 use Rattle.qcow2_spec.proofs.Facts.{Facts}
-use Rattle.qcow2_spec.proofs.Walked.{states-shared, states-figures, counted-shared}
+use Rattle.qcow2_spec.proofs.Walked.{states-bad, states-shared, states-figures, counted-shared}
 use Rattle.qcow2_trees.specs.Walks.{rootsVisited}
 use Rattle.qcow2_forest.specs.Forest.{statesOf}
+
+-- a scratch of N clusters that is cleared, and then visited as one window
+pub cleared-visited : (kind N : ℕ) (cs z c y : List ℕ) (low r : ℕ) → kind < 512 → length z ≡ 2 * N → c ≡ replicate (length z) 0
+    → board y r ≡ visitAllIn kind 0 cs (board c low) → y ≡ visitAll kind cs (replicate (2 * N) 0)
+cleared-visited kind N cs z c y low r h len e v =
+    let Z : List ℕ = replicate (2 * N) 0 in
+    let d : c ≡ Z = rw len at e in
+    let u : board y r ≡ visitAllIn kind 0 cs (board Z low) = rw d at v in
+    ap (λ (w : Board). w .bytes) (u ∙ visitAllIn-whole N low Z (length-replicate {A = ℕ} (2 * N) 0) kind (λ q. omega (arith, q, h)) cs)
 
 module _ (s : List ℕ) where
   -- counting alone
@@ -61,6 +72,10 @@ module _ (s : List ℕ) where
   length-states =
       ap length states-are ∙ length-forestVisited (l1Refs s) (l1Entries s) (roots s) 0 start
       ∙ length-visitAll fixedKind (fixedRefs s) (replicate (2 * clusters s) 0) ∙ length-replicate {A = ℕ} (2 * clusters s) 0
+
+  -- a number is bad exactly where its cluster is shared
+  pub shared-state : (f : Facts s) (k : ℕ) → k < clusters s → badMark (be16 (statesOf s) (2 * k)) ≡ sharedAt s k
+  shared-state f k l = rw states-are (states-bad s f k l)
 
   -- the lowest shared cluster by a scratch's numbers, whose length is that of its image's
   pub shared-states : (f : Facts s) (z : List ℕ) → z ≡ statesOf s → first (λ k. badMark (be16 z (2 * k))) 0 (length z / 2) ≡ first (sharedAt s) 0 (clusters s)

@@ -28,7 +28,8 @@ fn count_alone(image: &[u8], scratch: &mut [u8], g: Geometry) -> Spot
     requires { ⌜ Active g (now image) × (length (now scratch) ≡ 2 * g .clusters) ⌝ }
     ensures { λ r. ⌜ Front false (now (image .entry)) (roots (now (image .entry))) (r .root) (r .row) (r .below) × (now (scratch .exit) ≡ wide (figuresOf (now (image .entry)))) ⌝ }
 {
-    qcow2_fixed::visit_fixed(image, scratch, g, 0);
+    tally::clear(scratch);
+    qcow2_fixed::visit_fixed(image, scratch, 0, g, 0, 0);
     qcow2_trees::walk_roots(image, scratch, g, false)
 }
 
@@ -51,7 +52,8 @@ fn walk_states(image: &[u8], scratch: &mut [u8], g: Geometry) -> Spot
     requires { ⌜ Active g (now image) × (length (now scratch) ≡ 2 * g .clusters) ⌝ }
     ensures { λ r. ⌜ Front true (now (image .entry)) (roots (now (image .entry))) (r .root) (r .row) (r .below) × (now (scratch .exit) ≡ statesOf (now (image .entry))) ⌝ }
 {
-    qcow2_fixed::visit_fixed(image, scratch, g, 1);
+    tally::clear(scratch);
+    qcow2_fixed::visit_fixed(image, scratch, 0, g, 1, 0);
     qcow2_trees::walk_roots(image, scratch, g, true)
 }
 

@@ -9,7 +9,7 @@ ghost use Rattle.qcow2_spec.specs.References.{l2Refs};
 ghost use Rattle.qcow2_groups.specs.Walks.{Room, passes, AllGood};
 
 // 1 where bit 0 may be set in an L2 entry.
-fn marks(version: u32) -> u64
+pub fn marks(version: u32) -> u64
     ensures { λ r. ⌜ (r ≡ (if eqb version 3 then 1 else 0)) × (r ≤ 1) ⌝ }
 {
     if version == 3 { 1 } else { 0 }

@@ -4,7 +4,7 @@ ghost use Prim.Native.Nat.{suc, _^_, _≤_, _<_};
 ghost use lib.Dec.{ltb};
 ghost use lib.ListN.{length};
 ghost use Rattle.choice.specs.Pick.{first};
-ghost use Rattle.qcow2_spec.specs.Header.{mostBits, mostLength, clusterSize, snapshots as shots, snapshotsAt, snapshotAt, badSnapshot, snapshotNumber, roots};
+ghost use Rattle.qcow2_spec.specs.Header.{mostBits, mostLength, clusterSize, snapshots as shots, snapshotsAt, snapshotAt, badSnapshot, snapshotNumber, roots, rootSize};
 ghost use Rattle.qcow2_spec.specs.Opened.{Opened, Active};
 use qcow2_spec::Geometry;
 
@@ -45,7 +45,7 @@ pub fn snapshot_number(image: &[u8], count: usize, at: usize, bits: u32) -> u8
 }
 
 // The place of an entry, or after the last one.
-fn place_of(image: &[u8], g: Geometry, k: usize) -> usize
+pub fn place_of(image: &[u8], g: Geometry, k: usize) -> usize
     requires { ⌜ Opened g (now image) × (k ≤ shots (now image)) ⌝ }
     ensures { λ r. ⌜ r ≡ snapshotAt (now (image .entry)) k ⌝ }
 {
@@ -56,6 +56,22 @@ fn place_of(image: &[u8], g: Geometry, k: usize) -> usize
         i += 1;
     }
     p
+}
+
+// The place after snapshot k's entry, which stands at p.
+pub fn next_place(image: &[u8], g: Geometry, k: usize, p: usize) -> usize
+    requires { ⌜ (Opened g (now image) × (k < shots (now image))) × (p ≡ snapshotAt (now image) k) ⌝ }
+    ensures { λ r. ⌜ r ≡ snapshotAt (now (image .entry)) (suc k) ⌝ }
+{
+    entry::entry_end(image, p)
+}
+
+// The entries of snapshot k's L1 table; its own entry stands at p.
+pub fn size_at(image: &[u8], g: Geometry, k: usize, p: usize) -> usize
+    requires { ⌜ (Opened g (now image) × (k < shots (now image))) × (p ≡ snapshotAt (now image) k) ⌝ }
+    ensures { λ r. ⌜ r ≡ rootSize (now (image .entry)) (suc k) ⌝ }
+{
+    endian::load32(image, p + 8) as usize
 }
 
 // The place after the snapshot table; where there is no snapshot, the place that the header names, which may be any number.

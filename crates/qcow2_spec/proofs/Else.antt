@@ -8,23 +8,11 @@ use lib.Dec.{eqb}
 use Rattle.choice.specs.Pick.{if_then_else_}
 use Rattle.qcow2_spec.specs.Entries.{place}
 use Rattle.qcow2_spec.specs.References.{l1Entries, l2Entries}
-use Rattle.qcow2_spec.specs.Check.{Seek, l2Verdict, entryVerdict, l1Verdict, badIn, rootsVerdict, wrongMarks}
+use Rattle.qcow2_spec.specs.Check.{orElse, Seek, l2Verdict, entryVerdict, l1Verdict, badIn, rootsVerdict, wrongMarks}
 use Rattle.qcow2_spec.specs.declared.Verdict.{Verdict}
 use Rattle.qcow2_spec.specs.declared.Verdict.the-variants.{Sound, Leaks, BadL1, BadL2, Shared, Short, MarkL1, MarkL2, Refused}
 
--- a verdict, or another where it is sound
-abbrev pub orElse : Verdict → Verdict → Verdict
-orElse Sound next = next
-orElse (Leaks m) next = Leaks m
-orElse (BadL1 t i) next = BadL1 t i
-orElse (BadL2 t i j) next = BadL2 t i j
-orElse (Shared k) next = Shared k
-orElse (Short k) next = Short k
-orElse (MarkL1 i) next = MarkL1 i
-orElse (MarkL2 i j) next = MarkL2 i j
-orElse (Refused k) next = Refused k
-
-else-else : (a b c : Verdict) → orElse a (orElse b c) ≡ orElse (orElse a b) c
+pub else-else : (a b c : Verdict) → orElse a (orElse b c) ≡ orElse (orElse a b) c
 else-else Sound b c = refl
 else-else (Leaks m) b c = refl
 else-else (BadL1 t i) b c = refl
@@ -34,6 +22,17 @@ else-else (Short k) b c = refl
 else-else (MarkL1 i) b c = refl
 else-else (MarkL2 i j) b c = refl
 else-else (Refused k) b c = refl
+
+pub else-sound : (v : Verdict) → orElse v Sound ≡ v
+else-sound Sound = refl
+else-sound (Leaks m) = refl
+else-sound (BadL1 t i) = refl
+else-sound (BadL2 t i j) = refl
+else-sound (Shared k) = refl
+else-sound (Short k) = refl
+else-sound (MarkL1 i) = refl
+else-sound (MarkL2 i j) = refl
+else-sound (Refused k) = refl
 
 -- what a search names is not sound
 pub record Damage (w : Seek) : Type 0 where
@@ -59,7 +58,7 @@ module _ (s : List ℕ) (w : Seek) (d : Damage w) where
       go true h = h
       go false h = sym (d .second i j next)
 
-  entry-else : (i e : ℕ) (next : Verdict) → entryVerdict s w i e next ≡ orElse (entryVerdict s w i e Sound) next
+  pub entry-else : (i e : ℕ) (next : Verdict) → entryVerdict s w i e next ≡ orElse (entryVerdict s w i e Sound) next
   unfolding entryVerdict
   entry-else i e next = go (not (w .good1 e)) (eqb (place e) 0)
     where

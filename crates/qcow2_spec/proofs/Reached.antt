@@ -1,21 +1,19 @@
 -- A cluster is shared exactly if the walk over the fixed places and then the L1 tables in order leaves it in the bad state (`Roles` of tally): a check
 -- needs a small number for each cluster, and no list. Assumes nothing.
-use Prim.Native.Nat.{ℕ, zero, suc, _+_, _≤_, _<_, min, zero-le}
+use Prim.Native.Nat.{ℕ, _+_, _≤_, min, zero-le}
 use native.Mathlib.Decide.{ℕ-discrete}
 use native.Mathlib.Omega.{arith}
-use mathlib.Core.Path.{_≡_, refl, sym, ap, _∙_}
+use mathlib.Core.Path.{_≡_, sym, _∙_}
 use mathlib.Core.Logic.{_⊎_, inl, inr, _≢_}
 use mathlib.Core.Bool.{Bool, true, false}
 use mathlib.Core.List.{List}
 use lib.Dec.{eqb}
-use lib.ListN.{length, getD, replicate, length-replicate}
 use borrow.Author.Tests.{eq-eqb, ne-eqb, ltb-false, le-ltb}
 use Rattle.choice.specs.Pick.{count}
 use Rattle.choice.proofs.Found.{count-zero, count-false}
 use Rattle.choice.proofs.Tests.{true-not-false, two-ways}
 use Rattle.tally.specs.Tally.{run, joined, occurrences}
-use Rattle.tally.specs.Roles.{fixedRole, badState, reachAll, forestReached, touchAll, forestTouched}
-use Rattle.tally.proofs.Windows.{length-touchAll, touchAll-at, forestTouched-at}
+use Rattle.tally.specs.Roles.{badState}
 use Rattle.tally.proofs.Roles.{twiceBy, stateOf, bad-shared, good-unshared}
 use Rattle.qcow2_spec.specs.Header.{roots}
 use Rattle.qcow2_spec.specs.References.{l1Entries, l1Refs, fixedRefs, tablesIn, dataIn}
@@ -59,20 +57,3 @@ module _ (s : List ℕ) (k : ℕ) where
       go (inl h) (no d) = absurd (true-not-false h (not-shared s k (good d)))
       go (inr h) (yes e) = absurd (no-bad (unshared s k h) e)
       go (inr h) (no d) = ne-eqb state badState d ∙ sym h
-
--- a window of W clusters from b on, cleared and then walked: the bad states in it are the shared clusters
-pub window-shared : (s : List ℕ) (b W j : ℕ) → j < W
-    → eqb (getD (forestTouched (l1Refs s) (l1Entries s) b 0 (roots s) (touchAll fixedRole 0 b (fixedRefs s) (replicate W 0))) j 0) badState ≡ sharedAt s (b + j)
-window-shared s b W j l =
-    ap (λ (x : ℕ). eqb x badState)
-    (forestTouched-at (l1Refs s) b (l1Entries s) (roots s) 0 (touchAll fixedRole 0 b (fixedRefs s) (replicate W 0)) j (omega (arith, length-touchAll fixedRole 0 b (fixedRefs s) (replicate W 0), wide))
-    ∙ ap (forestReached (l1Refs s) (l1Entries s) (b + j) 0 (roots s)) (touchAll-at fixedRole 0 b (fixedRefs s) (replicate W 0) j (omega (arith, wide)) ∙ ap (reachAll fixedRole 0 (b + j) (fixedRefs s)) (cleared W j)))
-    ∙ reached-shared s (b + j)
-  where
-    wide : length (replicate {A = ℕ} W 0) ≡ W
-    wide = length-replicate {A = ℕ} W 0
-
-    cleared : (n i : ℕ) → _≡_ {A = ℕ} (getD (replicate n 0) i 0) 0
-    cleared zero i = refl
-    cleared (suc n) zero = refl
-    cleared (suc n) (suc i) = cleared n i

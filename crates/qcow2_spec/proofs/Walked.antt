@@ -1,6 +1,6 @@
 -- A cleared scratch once the fixed places and then the L1 tables in order are walked (`States` of tally): the first bad number in it is that of the lowest
 -- shared cluster, and where there is none its counts are the figures. Without snapshots counting alone does. Assumes nothing.
-use Prim.Native.Nat.{ℕ, _*_, _≤_}
+use Prim.Native.Nat.{ℕ, _*_, _≤_, _<_}
 use native.Mathlib.Nat.{zero-add, add-zero}
 use native.Mathlib.Omega.{arith}
 use mathlib.Core.Path.{_≡_, sym, ap, _∙_, fun-ext}
@@ -35,10 +35,14 @@ module _ (s : List ℕ) where
     few : roots s ≤ 100
     few = omega (arith, root-count s f, f .some)
 
+    -- cluster by cluster
+    pub states-bad : (k : ℕ) → k < clusters s → badIn k ≡ sharedAt s k
+    states-bad k l = tallied-bad (l1Refs s) (l1Entries s) (fixedRefs s) (roots s) (clusters s) few k l ∙ reached-shared s k
+
     pub states-shared : first badIn 0 (clusters s) ≡ first (sharedAt s) 0 (clusters s)
     states-shared =
         sym (add-zero (first badIn 0 (clusters s)))
-        ∙ first-shift badIn (sharedAt s) 0 0 (clusters s) (λ d l. rw zero-add (tallied-bad (l1Refs s) (l1Entries s) (fixedRefs s) (roots s) (clusters s) few d l ∙ reached-shared s d))
+        ∙ first-shift badIn (sharedAt s) 0 0 (clusters s) (λ d l. rw zero-add (states-bad d l))
         ∙ zero-add (first (sharedAt s) 0 (clusters s))
 
     pub states-figures : clusters s ≤ first (sharedAt s) 0 (clusters s) → unpacked walkedScratch (clusters s) ≡ wide (figuresOf s)

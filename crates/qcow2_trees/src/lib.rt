@@ -17,7 +17,7 @@ pub struct Spot {
 }
 
 // The kind of a visit to an L2 table.
-fn table_by(states: bool, t: usize) -> u16
+pub fn table_by(states: bool, t: usize) -> u16
     requires { ⌜ t ≤ 64 ⌝ }
     ensures { λ r. ⌜ (r ≡ tableBy states t) × (r < 512) ⌝ }
 {
@@ -28,7 +28,7 @@ fn table_by(states: bool, t: usize) -> u16
 }
 
 // The kind of a visit to what stands below.
-fn data_by(states: bool, t: usize) -> u16
+pub fn data_by(states: bool, t: usize) -> u16
     requires { ⌜ t ≤ 64 ⌝ }
     ensures { λ r. ⌜ (r ≡ dataBy states t) × (r < 512) ⌝ }
 {

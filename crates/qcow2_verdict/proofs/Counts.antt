@@ -9,10 +9,10 @@ use lib.ListN.{length}
 use Rattle.choice.specs.Pick.{if_then_else_, first, count}
 use Rattle.qcow2_spec.specs.Header.{clusters}
 use Rattle.qcow2_spec.specs.References.{l1Entries}
-use Rattle.qcow2_spec.specs.Check.{l1Verdict, wrongMarks, sharedAt, short, over, countsVerdict}
+use Rattle.qcow2_spec.specs.Check.{orElse, l1Verdict, wrongMarks, sharedAt, short, over, countsVerdict}
 use Rattle.qcow2_spec.specs.declared.Verdict.{Verdict}
 use Rattle.qcow2_spec.specs.declared.Verdict.the-variants.{Sound, Leaks, Shared, Short}
-use Rattle.qcow2_spec.proofs.Else.{orElse, mark-damage, l1-else}
+use Rattle.qcow2_spec.proofs.Else.{mark-damage, l1-else}
 use Rattle.qcow2_bad.specs.Known.{sound}
 use Rattle.qcow2_bad.proofs.Tables.{sound-is, sound-else}
 

@@ -18,7 +18,7 @@ use qcow2_spec::Verdict;
 use tally::Counted;
 
 // All clusters, block by block. A short count is the last thing looked at: nothing after it changes the verdict.
-fn judge_blocks(image: &[u8], scratch: &[u8], g: Geometry) -> Counted
+pub fn judge_blocks(image: &[u8], scratch: &[u8], g: Geometry) -> Counted
     requires { ⌜ Opened g (now image) × (length (now scratch) ≡ 2 * g .clusters) ⌝ }
     ensures { λ r. ⌜ Judged (now (image .entry)) (figuresIn (now (scratch .entry))) (g .clusters) r ⌝ }
 {
@@ -41,7 +41,7 @@ fn judge_blocks(image: &[u8], scratch: &[u8], g: Geometry) -> Counted
 }
 
 // The verdict where so many clusters leak and there is nothing worse.
-fn leaking(over: usize) -> Verdict
+pub fn leaking(over: usize) -> Verdict
     ensures { λ r. ⌜ r ≡ (if ltb 0 over then Leaks over else Sound) ⌝ }
 {
     if 0 < over {

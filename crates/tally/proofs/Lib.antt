@@ -5,7 +5,6 @@ pub mod Steps
 pub mod Marks
 pub mod Tallies
 pub mod States
-pub mod Windows
 pub mod Signs
 pub mod Counting
 pub mod Occurs

@@ -7,7 +7,7 @@ use mathlib.Core.List.{List, [], _∷_, _++_}
 use lib.ListN.{length, take, drop, take-append-drop}
 use lib.Seq.{sets, length-sets}
 use Rattle.endian.specs.Big.{be16, bytes16}
-use Rattle.tally.specs.Tally.{run, joined, bumpedWide, bumpAllWide}
+use Rattle.tally.specs.Tally.{joined, bumpedWide, bumpAllWide}
 use Rattle.tally.specs.States.{step, tableKind, dataKind, visited, visitAll, entryVisited, treeVisited, forestVisited}
 use Rattle.tally.proofs.Steps.{step-count}
 
@@ -28,19 +28,6 @@ visitAll-append kind (c ∷ cs) qs s = visitAll-append kind cs qs (visited kind 
 pub visitAll-one : (kind c : ℕ) (s : List ℕ) → visitAll kind (c ∷ []) s ≡ visited kind s c
 unfolding visitAll
 visitAll-one kind c s = refl
-
--- one of the k - j turns of a run
-pub visits-turn : (kind i k j : ℕ) (s : List ℕ) → j < k
-    → visitAll kind (run (i + j) (k - j)) s ≡ visitAll kind (run (i + (j + 1)) (k - (j + 1))) (visited kind s (i + j))
-unfolding run visitAll
-visits-turn kind i k j s h =
-    let e : k - j ≡ suc (k - (j + 1)) = omega arith in
-    let f : suc (i + j) ≡ i + (j + 1) = omega arith in
-    rw (e, f)
-
-pub visits-none : (kind i k j : ℕ) (s : List ℕ) → k ≤ j → visitAll kind (run (i + j) (k - j)) s ≡ s
-unfolding run visitAll
-visits-none kind i k j s h = let e : k - j ≡ 0 = omega arith in rw e
 
 -- ---- kind 0 counts alone
 pub visited-count : (s : List ℕ) (c : ℕ) → visited 0 s c ≡ bumpedWide s c

@@ -3,8 +3,7 @@ ghost use mathlib.Core.Path.{_≡_};
 ghost use Prim.Native.Nat.{_+_, _*_, _/_, _%_, _≤_, _<_, min};
 ghost use lib.ListN.{length};
 ghost use Rattle.endian.specs.Big.{be16, bytes16, splice};
-ghost use Rattle.tally.specs.Tally.{run};
-ghost use Rattle.tally.specs.States.{step as stepOf, visited, visitAll, unpacked};
+ghost use Rattle.tally.specs.States.{step as stepOf, visited, unpacked};
 
 // One reference more.
 fn more(x: u16) -> u16
@@ -66,18 +65,6 @@ pub fn visit(scratch: &mut [u8], c: usize, kind: u16)
     }
     let x = endian::load16(scratch, 2 * c);
     endian::store16(scratch, 2 * c, step(kind, x));
-}
-
-// Each of the k clusters from i on is visited.
-pub fn visit_run(scratch: &mut [u8], i: usize, k: usize, kind: u16)
-    requires { ⌜ (2 * (i + k) ≤ length (now scratch)) × (kind < 512) ⌝ }
-    ensures { λ _. ⌜ now (scratch .exit) ≡ visitAll kind (run i k) (now (scratch .entry)) ⌝ }
-{
-    let mut j = 0;
-    while j < k {
-        visit(scratch, i + j, kind);
-        j += 1;
-    }
 }
 
 // Cluster k's count alone stays.

@@ -39,11 +39,15 @@ pub fn check<D>(image: &ImageFile<D>) -> Result<Checked, Failure> {
 }
 
 pub fn run(image: &ImageFile) -> Result<Report, Failure> {
-    let checked = check(image)?;
+    Ok(report(image, &check(image)?, false))
+}
+
+/// What a check says. Was the image changed while it ran?
+pub fn report(image: &ImageFile, checked: &Checked, changed: bool) -> Report {
     let (mut text, mut json) = checked.words(&image.bytes);
     if checked.verdict == Verdict::Sound {
         json.extend(Damage::default().members(&checked.layout));
-        return Ok(Report { text: text + "\n", json, exit: DONE });
+        return Report { text: text + "\n", json, exit: DONE };
     }
     let damage = Damage::of(&checked.layout, &image.bytes, checked.verdict, &checked.scratch);
     let (advice, exit) = if matches!(checked.verdict, Verdict::Leaks(_)) {
@@ -51,13 +55,17 @@ pub fn run(image: &ImageFile) -> Result<Report, Failure> {
         (advice(image), LEAKS)
     } else {
         text += &format!("\n{}", damage.lines(&checked.layout));
-        (image.subject().advice(damage.remedy()), DAMAGED)
+        (if changed { LOOK_AGAIN.into() } else { image.subject().advice(damage.remedy()) }, DAMAGED)
     };
     text += &format!("  {advice}\n");
     json.push(("advice", advice.into()));
     json.extend(damage.members(&checked.layout));
-    Ok(Report { text, json, exit })
+    Report { text, json, exit }
 }
+
+/// What was counted before a change may seem damaged after it.
+const LOOK_AGAIN: &str = "Let no program write to the file before 'qstore check' without --state \
+                          has judged it as it is now, and said what is safe.";
 
 /// What to do about leaks.
 fn advice(image: &ImageFile) -> String {

@@ -6,6 +6,7 @@ pub mod discard;
 pub mod extend;
 mod info;
 mod map;
+mod portion;
 mod read;
 pub mod repair;
 mod snapshot;
@@ -24,7 +25,7 @@ pub fn run(options: &Options) -> (Vec<String>, Result<Answer, Failure>) {
     match ImageFile::open(&options.image, access(options), view(options), given) {
         Ok(mut image) => {
             let (mut notes, watch) = (std::mem::take(&mut image.notes), image.backing.watch());
-            let answer = answer(options, image);
+            let answer = answer(options, image, &mut notes);
             notes.extend(watch.filter(|_| options.command.changes()).and_then(changed));
             (notes, answer)
         }
@@ -71,7 +72,8 @@ fn view(options: &Options) -> View {
     }
 }
 
-fn answer(options: &Options, image: ImageFile) -> Result<Answer, Failure> {
+/// What is to be noted beside it is added to the notes.
+fn answer(options: &Options, image: ImageFile, notes: &mut Vec<String>) -> Result<Answer, Failure> {
     let report = match &options.command {
         Command::Map => return Ok(Answer::Long(Box::new(map::Map::of(image)?))),
         &Command::Read { offset, length, snapshot: None } => {
@@ -82,7 +84,8 @@ fn answer(options: &Options, image: ImageFile) -> Result<Answer, Failure> {
             return Ok(Answer::Long(Box::new(kept)));
         }
         Command::Info => info::run(image),
-        Command::Check => check::run(&image),
+        Command::Check { portion: None } => check::run(&image),
+        Command::Check { portion: Some(asked) } => portion::run(&image, asked, notes),
         &Command::Repair { allowance, force } => repair::run(image, allowance, force),
         &Command::Write { offset, allowance } => {
             write::run(image, offset, &mut stdin().lock(), allowance)

@@ -6,6 +6,7 @@ pub mod growing;
 pub mod kept;
 pub mod kinds;
 pub mod made;
+pub mod portions;
 pub mod promise;
 pub mod series;
 

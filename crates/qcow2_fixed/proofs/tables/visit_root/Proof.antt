@@ -3,7 +3,7 @@ use native.Mathlib.Omega.{arith}
 use Prim.Native.Nat.{_^_}
 use denote.Ref.{now}
 use Rattle.qcow2_fixed.proofs.Runs.{root-run}
-use Rattle.qcow2_fixed.proofs.Inside.{root-short, root-fits}
+use Rattle.qcow2_fixed.proofs.Inside.{root-short, root-near}
 use Rattle.qcow2_fixed.proofs.tables.visit_root.Statement.{statement}
 use Rattle.qcow2_fixed.proofs.tables.visit_root.Tie as tie
 
@@ -18,15 +18,14 @@ visit-bytes-requires c κs =
     let o = b .pre .0 in
     let g = b .args .r in
     let s = now (b .args .image) in
-    ((o .high, omega (arith, root-short g s o)), (omega (arith, root-fits g s o, b .pre .1 .0), b .pre .1 .1))
+    ((o .high, b .pre .1), (root-near g s o, omega (arith, root-short g s o)))
 
 returns : tie.Need-returns
 returns c =
-    let v = c .before .before in
-    let b = v .before .before .before .before .before in
+    let b = c .before .before .before .before .before .before .before in
     let o = b .pre .0 in
     let g = b .args .r in
-    rw (root-run (now (b .args .image)) (g .root) (g .l1at) (g .l1size) (2 ^ g .bits) (o .is-l1at) (o .is-l1size) (o .is-cluster)) at (v .visit-bytes .ensures)
+    rw (root-run (now (b .args .image)) (g .root) (g .l1at) (g .l1size) (2 ^ g .bits) (o .is-l1at) (o .is-l1size) (o .is-cluster)) at (c .before .before .visit-bytes .ensures)
 
 pub visit-root-spec : {M : Type 1} → statement M
 visit-root-spec = tie.close (tie.spec mul-visit-bytes visit-bytes-requires (search needs) returns)

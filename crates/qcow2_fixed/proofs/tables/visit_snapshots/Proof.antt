@@ -1,19 +1,23 @@
 use borrow.Author.Needs.{needs}
 use native.Mathlib.Omega.{arith}
-use Prim.Native.Nat.{_^_}
+use Prim.Native.Nat.{ℕ, _^_}
+use mathlib.Core.Path.{ap, _∙_}
+use mathlib.Core.List.{List}
 use denote.Ref.{now}
+use Rattle.window.specs.Window.{board, visitAllIn}
 use Rattle.qcow2_spec.proofs.Facts.{facts, c-pos}
 use Rattle.qcow2_fixed.proofs.Runs.{snapshot-run, snapshot-none}
-use Rattle.qcow2_fixed.proofs.Inside.{shots-inside, shots-after, shots-fit}
+use Rattle.qcow2_fixed.proofs.Inside.{shots-inside, shots-after}
 use Rattle.qcow2_fixed.proofs.tables.visit_snapshots.Statement.{statement}
 use Rattle.qcow2_fixed.proofs.tables.visit_snapshots.Tie as tie
 
 returns : tie.Need-returns
 returns c =
     let b = c .before .before .before .before in
+    let a = b .args in
     let o = b .pre .0 in
-    let s = now (b .args .image) in
-    snapshot-none s (b .args .kind) (now (b .args .scratch)) (omega (arith, o .is-snapshots, c .if1 .taken)) (c-pos s (facts s (o .accepted)))
+    let s = now (a .image) in
+    snapshot-none s (a .kind) (a .b) (board (now (a .target)) (a .low)) (omega (arith, o .is-snapshots, c .if1 .taken)) (c-pos s (facts s (o .accepted)))
 
 table-end-requires : tie.Need-table-end-requires
 table-end-requires c κs = c .before .before .before .before .pre .0
@@ -25,22 +29,23 @@ sub-bytes c =
 
 visit-bytes-requires : tie.Need-visit-bytes-requires
 visit-bytes-requires c κs =
-    let e = c .before .before in
-    let b = e .before .before .before .before .before in
+    let b = c .before .before .before .before .before .before .before in
     let o = b .pre .0 in
     let g = b .args .g in
     let s = now (b .args .image) in
-    let n = e .before .if1 .left in
-    ((o .high, omega (arith, e .table-end .ensures, shots-inside g s o n, o .short)), (omega (arith, shots-fit g s o n (e .table-end .result) (e .table-end .ensures), b .pre .1 .0), b .pre .1 .1))
+    let n = c .before .before .before .if1 .left in
+    let i = shots-inside g s o n in
+    ((o .high, b .pre .1), (omega (arith, shots-after g s o n, i, o .short), omega (arith, c .before .before .table-end .ensures, i, o .short)))
 
 returns-2 : tie.Need-returns-2
 returns-2 c =
-    let v = c .before .before in
-    let e = v .before .before .before in
-    let b = e .before .before .before .before .before in
+    let e = c .before .before .before .before .before .table-end in
+    let b = c .before .before .before .before .before .before .before .before .before .before in
+    let a = b .args in
     let o = b .pre .0 in
-    let g = b .args .g in
-    rw (snapshot-run (now (b .args .image)) (g .snapshotsat) (e .table-end .result) (2 ^ g .bits) (o .is-snapshotsat) (e .table-end .ensures) (o .is-cluster)) at (v .visit-bytes .ensures)
+    let g = a .g in
+    let k = snapshot-run (now (a .image)) (g .snapshotsat) (e .result) (2 ^ g .bits) (o .is-snapshotsat) (e .ensures) (o .is-cluster) in
+    c .before .before .visit-bytes .ensures ∙ ap (λ (l : List ℕ). visitAllIn (a .kind) (a .b) l (board (now (a .target)) (a .low))) k
 
 pub visit-snapshots-spec : {M : Type 1} → statement M
 visit-snapshots-spec =

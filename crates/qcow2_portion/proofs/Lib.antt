@@ -1,0 +1,4 @@
+pub mod Standing
+pub mod Cutting
+pub mod Single
+pub mod Taking

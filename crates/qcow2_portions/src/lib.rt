@@ -1,0 +1,1 @@
+// The definitions of a check in portions are in specs/.
