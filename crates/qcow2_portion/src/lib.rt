@@ -112,7 +112,16 @@ fn stepped(st: CheckState, image: &[u8], scratch: &mut [u8], g: Geometry, may: u
                     answer: Answer::More,
                 };
             }
-            return entered(image, &mut scratch[..m], g, false, 0, 0, Verdict::Sound, may);
+            return entered(
+                image,
+                &mut scratch[..m],
+                g,
+                false,
+                0,
+                0,
+                Verdict::Sound,
+                may,
+            );
         }
         CheckState::Going(root, row, found) => {
             if may == 0 {
