@@ -1,8 +1,7 @@
 -- What every call answers and leaves where the image is refused. Assumes nothing.
-use Prim.Native.Nat.{ℕ, zero, suc}
+use Prim.Native.Nat.{ℕ}
 use mathlib.Core.Path.{_≡_, refl}
 use mathlib.Core.List.{List, []}
-use Rattle.choice.specs.Pick.{unless}
 use Rattle.units.specs.Plan.{Plan, refused, Done}
 use Rattle.units.specs.declared.Outcome.the-variants.{Refused as NotDone}
 use Rattle.units.proofs.Steps.{refusal}
@@ -10,38 +9,27 @@ use Rattle.qcow2_spec.specs.declared.Judged.the-variants.{Refused as Turned}
 use Rattle.qcow2_spec.specs.declared.Found.the-variants.{Refused}
 use Rattle.qcow2_spec.specs.declared.Listed.the-variants.{Refused as NotListed}
 use Rattle.qcow2_spec.specs.declared.Verdict.the-variants.{Refused as NotChecked}
-use Rattle.qcow2_spec.specs.Header.{someLent, judge}
+use Rattle.qcow2_spec.specs.Header.{someLent}
 use Rattle.qcow2_spec.specs.Opened.{opened}
 use Rattle.qcow2_spec.specs.Guest.{translate, readNumber, readInto, foundPart, inPlace}
 use Rattle.qcow2_spec.specs.Runs.{listRuns, runsInto}
 use Rattle.qcow2_spec.specs.Store.{clearing, judged, writePlan, discardPlan}
 use Rattle.qcow2_spec.specs.References.{scratchLeft}
 use Rattle.qcow2_spec.specs.Check.{check, repairPlan}
-use Rattle.qcow2_spec.proofs.Open.{refused-is}
-
-unless-refused : {A : Type 0} (k : ℕ) (f : ℕ → A) (a : A) → (k ≡ 0 → ⊥) → unless k f a ≡ f k
-unless-refused zero f a h = absurd (h refl)
-unless-refused (suc k) f a h = refl
+use Rattle.qcow2_header.proofs.Chain.{unless-refused}
 
 module _ (backing s : List ℕ) (k : ℕ) (e : opened (someLent backing) s ≡ Turned k) where
-  number : judge backing s ≡ k
-  unfolding judge
-  number = refused-is (someLent backing) s k e .0
-
-  none : k ≡ 0 → ⊥
-  none = refused-is (someLent backing) s k e .1
-
   pub translate-refused : (x : ℕ) → translate backing s x ≡ Refused k
   unfolding translate
-  translate-refused x = rw number (unless-refused k Refused _ none)
+  translate-refused x = unless-refused backing s k e Refused _
 
   pub number-refused : (t x len : ℕ) → readNumber backing s t x len ≡ k
   unfolding readNumber
-  number-refused t x len = rw number (unless-refused k (λ n. n) _ none)
+  number-refused t x len = unless-refused backing s k e (λ n. n) _
 
   pub into-refused : (t x : ℕ) (o : List ℕ) → readInto backing s t x o ≡ o
   unfolding readInto
-  into-refused t x o = rw number (unless-refused k (λ n. o) _ none)
+  into-refused t x o = unless-refused backing s k e (λ n. o) _
 
   pub place-refused : (x : ℕ) → inPlace backing s x ≡ []
   unfolding inPlace foundPart
@@ -49,23 +37,23 @@ module _ (backing s : List ℕ) (k : ℕ) (e : opened (someLent backing) s ≡ T
 
   pub runs-refused : (x len n : ℕ) → listRuns backing s 0 x len n ≡ NotListed k
   unfolding listRuns
-  runs-refused x len n = rw number (unless-refused k NotListed _ none)
+  runs-refused x len n = unless-refused backing s k e NotListed _
 
   pub rows-refused : (x len : ℕ) (o : List ℕ) → runsInto backing s 0 x len o ≡ o
   unfolding runsInto
-  rows-refused x len o = rw number (unless-refused k (λ n. o) _ none)
+  rows-refused x len o = unless-refused backing s k e (λ n. o) _
 
   pub check-refused : (n : ℕ) → check backing s n ≡ NotChecked k
   unfolding check
-  check-refused n = rw number (unless-refused k NotChecked _ none)
+  check-refused n = unless-refused backing s k e NotChecked _
 
   pub scratch-refused : (scratch : List ℕ) → scratchLeft backing s scratch ≡ scratch
   unfolding scratchLeft
-  scratch-refused scratch = rw number (unless-refused k (λ n. scratch) _ none)
+  scratch-refused scratch = unless-refused backing s k e (λ n. scratch) _
 
   pub judged-refused : (p : Plan) → judged backing s p ≡ refused k
   unfolding judged
-  judged-refused p = rw number (unless-refused k refused (clearing s p) none)
+  judged-refused p = unless-refused backing s k e refused (clearing s p)
 
   pub write-refused : (x : ℕ) (d : List ℕ) (a : ℕ) → Done (writePlan backing s x d) a s (NotDone k) s
   unfolding writePlan

@@ -1,6 +1,6 @@
 // The lowest shared cluster of an image without snapshots, by its own bytes: one bit for each cluster of a window.
 ghost use mathlib.Core.Path.{_≡_};
-ghost use mathlib.Core.Bool.{true, _&&_};
+ghost use mathlib.Core.Bool.{true};
 ghost use Prim.Native.Nat.{_+_, _-_, _*_, _≤_, min};
 ghost use lib.ListN.{length};
 ghost use Rattle.choice.specs.Pick.{first};
@@ -36,16 +36,6 @@ fn sweep_bits(image: &[u8], window: &mut [u8], g: Geometry, b: usize) -> Sweep
         found: Verdict::Sound,
     };
     qcow2_swept::sweep_rows(w, image, window, g, 0, g.l1size, 512, 512, b)
-}
-
-// Whether both hold.
-fn both(a: bool, b: bool) -> bool
-    ensures { λ r. ⌜ r ≡ (a && b) ⌝ }
-{
-    if a {
-        return b;
-    }
-    false
 }
 
 // The clusters of one window, k from b on: as many as it has bits for, or all that are left.
@@ -93,7 +83,7 @@ pub fn look(image: &[u8], scratch: &[u8], window: &mut [u8], g: Geometry) -> Loo
             };
         }
         own = w.own;
-        same = both(same, w.same);
+        same = qcow2_sweep::both(same, w.same);
         b += k;
     }
     Looked {

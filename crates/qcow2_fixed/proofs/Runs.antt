@@ -7,10 +7,8 @@ use native.Mathlib.Nat.{mul-one, mul-le-mul-left, div-mul-le-self, div-add-mod'}
 use native.Mathlib.Omega.{arith}
 use borrow.Author.Tests.{eq-eqb, ne-eqb}
 use lib.Pow.{pow-pos}
-use lib.ListN.{take, drop}
+use lib.ListN.{take}
 use Rattle.choice.specs.Pick.{ceilDiv}
-use Rattle.endian.specs.Big.{be64, entries}
-use Rattle.endian.proofs.Entries.{entries-turn, entries-none}
 use Rattle.tally.specs.Tally.{run, joined}
 use Rattle.window.specs.Window.{Board, visitedIn, visitAllIn}
 use Rattle.window.proofs.Steps.{visitAllIn-append}
@@ -42,17 +40,6 @@ module _ (kind b : ℕ) (f : ℕ → List ℕ) where
     pub roots-end : n ≤ t → visitAllIn kind b (joined f (run t (n - t))) w ≡ w
     unfolding run visitAllIn
     roots-end h = let e : n - t ≡ 0 = omega arith in rw e
-
-  -- and from entry j of k on
-  module _ (k j : ℕ) (t : List ℕ) (w : Board) where
-    pub refs-turn : j < k
-        → visitAllIn kind b (joined f (entries (k - j) (drop (8 * j) t))) w
-        ≡ visitAllIn kind b (joined f (entries (k - (j + 1)) (drop (8 * (j + 1)) t))) (visitAllIn kind b (f (be64 t (8 * j))) w)
-    refs-turn h = rw (entries-turn k j t h) (visitAllIn-append kind b (f (be64 t (8 * j))) _ w)
-
-    pub refs-end : k ≤ j → visitAllIn kind b (joined f (entries (k - j) (drop (8 * j) t))) w ≡ w
-    unfolding visitAllIn
-    refs-end h = rw (entries-none k j t h)
 
 -- what a place names
 module _ (kind b C p : ℕ) (w : Board) where

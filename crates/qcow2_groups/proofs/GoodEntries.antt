@@ -114,6 +114,18 @@ module _ (v b n e : ℕ) (least : 9 ≤ b) (small : n ≤ mostLength) (word : e 
       go (inr (t, (u, (q, inr w)))) =
           inr (record { at = w .at; mark = 1; is = top-off e (w .top) (w .at) 1 (omega (arith, q, w .is)) (omega (arith, w .inside, small)); few = omega (arith, three-mark v t); some = w .some; whole = w .whole; inside = w .inside })
 
+  -- the rest is more than a mark
+  pub rest-bad : 2 ≤ e % 2 ^ 63 → markOf v < e % 2 ^ 63 % 2 ^ b → goodL2 v (2 ^ b) n e ≡ false
+  rest-bad some h = go (goodL2 v (2 ^ b) n e) refl
+    where
+      ways : (e ≤ markOf v) ⊎ Placed v (2 ^ b) n (e % 2 ^ 63) → ⊥
+      ways (inl m) = omega (arith, m, some, mark-one v)
+      ways (inr w) = omega (arith, placed-rest v b n (e % 2 ^ 63) least w, h)
+
+      go : (t : Bool) → goodL2 v (2 ^ b) n e ≡ t → t ≡ false
+      go true g = absurd (ways (good-ways g))
+      go false g = refl
+
   ways-good : MaybeMarked v (2 ^ b) n e → goodL2 v (2 ^ b) n e ≡ true
   ways-good m = good-entries v (2 ^ b) n (2 ^ (b - 9)) e sectors (pow-pos (b - 9)) small word .1 .1 m
 

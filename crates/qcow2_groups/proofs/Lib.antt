@@ -1,3 +1,4 @@
 pub mod Walks
+pub mod Fores
 pub mod GoodEntries
 pub mod Passes

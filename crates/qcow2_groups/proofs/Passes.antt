@@ -17,7 +17,7 @@ use Rattle.qcow2_spec.specs.References.{l2Refs}
 use Rattle.qcow2_spec.proofs.Visits.{named-none, named-some}
 use Rattle.qcow2_groups.specs.Walks.{passes}
 use Rattle.qcow2_groups.proofs.Walks.{refs-good}
-use Rattle.qcow2_groups.proofs.GoodEntries.{markOf, mark-one, Placed, placed-rest, placed-cluster, placed-far, good-ways, low-good, low-place, placed-good, placed-at}
+use Rattle.qcow2_groups.proofs.GoodEntries.{markOf, Placed, placed-cluster, placed-far, good-ways, rest-bad, low-good, low-place, placed-good, placed-at}
 
 -- what a walk's step answers and leaves, by whether the entry passes
 abbrev pub Stepped : (kind v C n e : ℕ) (s : List ℕ) (r : Bool) (s′ : List ℕ) → Type 0
@@ -126,15 +126,7 @@ module _ (kind v b n e : ℕ) (least : 9 ≤ b) (small : n ≤ mostLength) (word
               rw l (stepped-not kind v (2 ^ b) n e s (common-stops kind v (2 ^ b) n e k (is-common e (omega (arith, f .0, f .1, wraps, far, h, word, small)) z)))
 
   pub bad-rest : 2 ≤ x → markOf v < x % 2 ^ b → Stepped kind v (2 ^ b) n e s false s
-  bad-rest f r = go (two-ways (goodL2 v (2 ^ b) n e))
-    where
-      ways : (e ≤ markOf v) ⊎ Placed v (2 ^ b) n x → ⊥
-      ways (inl l) = omega (arith, l, mark-one v, f)
-      ways (inr w) = omega (arith, placed-rest v b n x least w, r)
-
-      go : (goodL2 v (2 ^ b) n e ≡ true) ⊎ (goodL2 v (2 ^ b) n e ≡ false) → Stepped kind v (2 ^ b) n e s false s
-      go (inl g) = absurd (ways (good-ways v b n e least small word g))
-      go (inr g) = stepped-not kind v (2 ^ b) n e s (bad-stops kind v (2 ^ b) n e g)
+  bad-rest f r = stepped-not kind v (2 ^ b) n e s (bad-stops kind v (2 ^ b) n e (rest-bad v b n e least small word f r))
 
   module _ (w : Placed v (2 ^ b) n x) where
     some-place : place e ≡ 0 → ⊥

@@ -2,13 +2,12 @@
 -- Assumes nothing.
 use Prim.Native.Nat.{ℕ, _*_, _≤_}
 use mathlib.Core.Path.{_≡_, refl, sym, ap, _∙_}
-use mathlib.Core.Bool.{Bool, true, false}
+use mathlib.Core.Bool.{true, false}
 use mathlib.Core.List.{List}
 use lib.Dec.{ltb}
 use lib.ListN.{length, drop}
 use borrow.Author.Tests.{le-ltb}
 use Rattle.choice.specs.Pick.{if_then_else_, all, first, count}
-use Rattle.endian.specs.Big.{entries}
 use Rattle.endian.proofs.Entries.{be64-drop}
 use Rattle.qcow2_spec.specs.Header.{clusters, rootSize, rootAt}
 use Rattle.qcow2_spec.specs.References.{l1Entries}

@@ -9,7 +9,7 @@ use mathlib.Core.List.{List, [], _∷_, _++_}
 use lib.Dec.{leb, ltb, eqb}
 use lib.ListN.{length, take, drop, length-append}
 use borrow.Author.Tests.{ne-eqb, ltb-true, ltb-false, lt-ltb, le-ltb, leb-true}
-use Rattle.choice.specs.Pick.{if_then_else_, unless, all}
+use Rattle.choice.specs.Pick.{if_then_else_, all}
 use Rattle.choice.proofs.Tests.{two-ways, and-true}
 use Rattle.tally.specs.Tally.{wide}
 use Rattle.tally.proofs.Laws.{length-figures}
@@ -25,7 +25,6 @@ use Rattle.qcow2_portion.specs.State.{refusedWith, waits, ends, takenRow
 use Rattle.qcow2_portion.specs.Cutting.{stateAfter, scratchAfter, Cut, Cutting}
 use Rattle.qcow2_portion.specs.declared.CheckState.{CheckState}
 use Rattle.qcow2_portion.specs.declared.CheckState.the-variants.{New, Going, Finished}
-use Rattle.qcow2_portion.specs.declared.Answer.{Answer}
 use Rattle.qcow2_portion.specs.declared.Answer.the-variants.{Refused, More, Told}
 use Rattle.qcow2_portion.specs.declared.Portion.{Portion}
 use Rattle.qcow2_portion.proofs.Standing.{Stands, rows, fresh, going, over, kept, more, length-held}

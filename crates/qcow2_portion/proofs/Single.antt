@@ -1,15 +1,15 @@
 -- One portion by itself: what it leaves alone, and how many entries it takes. Assumes nothing.
 use Prim.Native.Nat.{ℕ, zero, suc, _*_, _≤_, _<_}
 use native.Mathlib.Omega.{arith}
-use mathlib.Core.Path.{_≡_, refl, sym, ap, _∙_}
+use mathlib.Core.Path.{_≡_, refl, sym, ap}
 use mathlib.Core.Logic.{_⊎_, inl, inr}
-use mathlib.Core.Bool.{Bool, true, false}
+use mathlib.Core.Bool.{true, false}
 use mathlib.Core.List.{List, [], _∷_}
-use lib.Dec.{ltb, eqb}
+use lib.Dec.{ltb}
 use lib.ListN.{length, take, drop, length-drop}
 use lib.Seq.{drop-nil}
-use borrow.Author.Tests.{eq-eqb, ne-eqb, ltb-true, ltb-false, le-ltb}
-use Rattle.choice.specs.Pick.{if_then_else_, unless}
+use borrow.Author.Tests.{ne-eqb, ltb-true, ltb-false}
+use Rattle.choice.specs.Pick.{if_then_else_}
 use Rattle.choice.proofs.Tests.{two-ways}
 use Rattle.qcow2_spec.specs.Header.{clusters, judge}
 use Rattle.qcow2_spec.specs.Check.{check, checked}
@@ -17,11 +17,11 @@ use Rattle.qcow2_spec.specs.declared.Verdict.{Verdict}
 use Rattle.qcow2_spec.specs.declared.Verdict.the-variants.{Sound, Refused as RefusedCheck}
 use Rattle.qcow2_portions.specs.Rows.{Row, ahead, met, rootAfter, rowAfter, started}
 use Rattle.qcow2_portions.proofs.Rows.{ahead-after}
-use Rattle.qcow2_portion.specs.State.{refusedWith, waits, ends, takenRows, figuresTaken, verdictTaken, taken, stepped, scratchStepped, portioned, scratchPortioned, portion, scratchPortion}
+use Rattle.qcow2_portion.specs.State.{refusedWith, waits, ends, takenRows, verdictTaken, taken, stepped, scratchStepped, portioned, scratchPortioned, portion, scratchPortion}
 use Rattle.qcow2_portion.specs.Single.{waiting, Untouched, One, Single}
 use Rattle.qcow2_portion.specs.declared.CheckState.{CheckState}
 use Rattle.qcow2_portion.specs.declared.CheckState.the-variants.{New, Going, Finished}
-use Rattle.qcow2_portion.specs.declared.Answer.the-variants.{Refused, More, Told}
+use Rattle.qcow2_portion.specs.declared.Answer.the-variants.{Refused, More}
 use Rattle.qcow2_portion.specs.declared.Portion.{Portion}
 
 none-left : (m : ℕ) (l : List Row) → length l ≤ m → drop m l ≡ []

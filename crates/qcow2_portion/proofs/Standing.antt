@@ -5,26 +5,28 @@ use native.Mathlib.Nat.{sub-zero}
 use native.Mathlib.Omega.{arith}
 use mathlib.Core.Path.{_≡_, refl, sym, ap, ap₂, _∙_}
 use mathlib.Core.Logic.{_⊎_, inl, inr}
-use mathlib.Core.Bool.{Bool, true, false}
+use mathlib.Core.Bool.{true, false}
 use mathlib.Core.List.{List, [], _∷_, _++_, append-assoc}
-use lib.Dec.{ltb, eqb}
+use lib.Dec.{ltb}
 use lib.ListN.{length, take, drop, replicate, length-append, length-take, length-drop, length-replicate, take-append-drop}
 use lib.Seq.{take-all, take-at, drop-at}
-use borrow.Author.Tests.{ne-eqb, ltb-true, ltb-false, lt-ltb, le-ltb}
-use Rattle.choice.specs.Pick.{if_then_else_, all}
+use borrow.Author.Tests.{ne-eqb, ltb-true, ltb-false}
+use Rattle.choice.specs.Pick.{if_then_else_}
 use Rattle.choice.proofs.Tests.{two-ways}
 use Rattle.tally.specs.Tally.{wide, bumpAllWide}
-use Rattle.tally.specs.States.{twos, visitAll}
+use Rattle.tally.specs.States.{twos}
 use Rattle.tally.proofs.States.{visitAll-count, length-visitAll}
 use Rattle.qcow2_spec.specs.Header.{clusters, roots}
-use Rattle.qcow2_spec.specs.References.{l1Entries, l1Refs, fixedRefs, references, mostFigure, figuresOf, scratchAfter as countedScratch}
-use Rattle.qcow2_spec.specs.Check.{orElse, entryGood, rootsVerdict, countsVerdict, verdict}
+use Rattle.qcow2_spec.specs.References.{l1Refs, fixedRefs, references, mostFigure, figuresOf, scratchAfter as countedScratch}
+use Rattle.qcow2_spec.specs.Check.{orElse, rootsVerdict, countsVerdict, verdict}
 use Rattle.qcow2_spec.specs.declared.Verdict.{Verdict}
-use Rattle.qcow2_spec.specs.declared.Verdict.the-variants.{Sound, Leaks, BadL1, BadL2, Shared, Short, MarkL1, MarkL2, Refused as RefusedCheck}
+use Rattle.qcow2_spec.specs.declared.Verdict.the-variants.{Sound}
 use Rattle.qcow2_spec.proofs.Else.{roots-else}
 use Rattle.tally.proofs.Laws.{length-figures}
 use Rattle.tally.proofs.Wide.{figures-fit}
 use Rattle.packed_twos.proofs.Laws.{figures-wide, length-wide}
+use Rattle.qcow2_bad.specs.Known.{sound}
+use Rattle.qcow2_bad.proofs.Tables.{sound-is, sound-else}
 use Rattle.qcow2_verdict.proofs.Figures.{figures-are}
 use Rattle.qcow2_check.proofs.Verdicts.{sound-all}
 use Rattle.qcow2_portions.specs.Rows.{Row, tablesRows, ahead, added, met, rootAfter, rowAfter, started}
@@ -81,15 +83,11 @@ module _ (s z : List ℕ) where
 
   -- with the check's figures it judges as the check does, where no bad entry was met
   judged : (v : Verdict) → v ≡ rootsVerdict s 0 (roots s) Sound → (fs : List ℕ) → orElse v (lastVerdict s fs) ≡ orElse v (countsVerdict s fs)
-  judged Sound e fs = last-good s fs (sound-all s (sym e))
-  judged (Leaks m) e fs = refl
-  judged (BadL1 t i) e fs = refl
-  judged (BadL2 t i j) e fs = refl
-  judged (Shared k) e fs = refl
-  judged (Short k) e fs = refl
-  judged (MarkL1 i) e fs = refl
-  judged (MarkL2 i j) e fs = refl
-  judged (RefusedCheck k) e fs = refl
+  judged v e fs = go (two-ways (sound v))
+    where
+      go : (sound v ≡ true) ⊎ (sound v ≡ false) → orElse v (lastVerdict s fs) ≡ orElse v (countsVerdict s fs)
+      go (inl h) = let q = sound-is v h in rw q (last-good s fs (sound-all s (sym e ∙ q)))
+      go (inr h) = sound-else v (lastVerdict s fs) h ∙ sym (sound-else v (countsVerdict s fs) h)
 
   -- ---- entries are taken
   module _ (done rest : List Row) (t i : ℕ) (v : Verdict) (m n : ℕ) (whole : rows ≡ done ++ rest) (front : ahead s t i ≡ rest) (held : v ≡ met s done Sound) (few : n ≤ length done) where

@@ -1,16 +1,15 @@
 -- A portion by what the code has found.
 -- Assumes nothing.
-use Prim.Native.Nat.{ℕ, zero, suc, _+_, _-_, _*_, _/_, _≤_, _<_, min}
+use Prim.Native.Nat.{ℕ, _+_, _-_, _*_, _/_, _≤_, _<_, min}
 use native.Mathlib.Omega.{arith}
 use mathlib.Core.Path.{_≡_, refl, sym, ap, ap₂, _∙_}
-use mathlib.Core.Logic.{_⊎_, inl, inr, _≢_}
-use mathlib.Core.Bool.{Bool, true, false}
-use mathlib.Core.List.{List, [], _∷_, _++_}
-use lib.Dec.{ltb, eqb}
+use mathlib.Core.Logic.{_⊎_, inl, inr}
+use mathlib.Core.Bool.{true, false}
+use mathlib.Core.List.{List, _++_}
+use lib.Dec.{ltb}
 use lib.ListN.{length, take, drop}
 use lib.Seq.{take-all}
 use borrow.Author.Tests.{eq-eqb, ne-eqb, lt-ltb, le-ltb, ltb-true, ltb-false}
-use Rattle.choice.specs.Pick.{if_then_else_, unless}
 use Rattle.choice.proofs.Tests.{two-ways}
 use Rattle.tally.specs.States.{twos}
 use Rattle.packed_twos.specs.Twos.{figuresIn}
@@ -21,14 +20,14 @@ use Rattle.qcow2_spec.specs.declared.Verdict.{Verdict}
 use Rattle.qcow2_spec.specs.declared.Verdict.the-variants.{Sound}
 use Rattle.qcow2_spec.specs.declared.Geometry.{Geometry}
 use Rattle.qcow2_spec.specs.declared.Judged.the-variants.{Accepted, Refused as Turned}
-use Rattle.qcow2_spec.proofs.Open.{accepted-is, refused-is}
+use Rattle.qcow2_spec.proofs.Open.{accepted-is}
+use Rattle.qcow2_header.proofs.Chain.{unless-refused}
 use Rattle.qcow2_verdict.proofs.Figures.{figures-are}
 use Rattle.qcow2_portions.specs.Rows.{Row, ahead, added, met, rootAfter, rowAfter, started}
 use Rattle.qcow2_portions.specs.Last.{lastVerdict}
 use Rattle.qcow2_portion.specs.State.{refusedWith, waits, ends, takenRows, figuresTaken, verdictTaken, taken, stepped, scratchStepped, portioned, scratchPortioned, portion, scratchPortion}
 use Rattle.qcow2_portion.specs.declared.CheckState.{CheckState}
 use Rattle.qcow2_portion.specs.declared.CheckState.the-variants.{New, Going, Finished}
-use Rattle.qcow2_portion.specs.declared.Answer.the-variants.{Refused, More, Told}
 use Rattle.qcow2_portion.specs.declared.Portion.{Portion}
 
 -- no more are taken than there are
@@ -107,16 +106,10 @@ module _ (s : List ℕ) (st : CheckState) (z : List ℕ) (may N : ℕ) (is : N �
   portion-room h p y hp hy = let l : ltb (length z) (2 * clusters s) ≡ false = le-ltb (length z) (2 * clusters s) (omega (arith, h, is)) in rw l (hp, hy)
 
 -- ---- by the header
-unless-refused : {A : Type 0} (k : ℕ) (f : ℕ → A) (a : A) → (k ≡ 0 → ⊥) → unless k f a ≡ f k
-unless-refused zero f a h = absurd (h refl)
-unless-refused (suc k) f a h = refl
-
 module _ (backing s : List ℕ) (st : CheckState) (z : List ℕ) (may : ℕ) where
   pub portion-refused : (k : ℕ) → opened (someLent backing) s ≡ Turned k → (refusedWith st k ≡ portion backing s st z may) × (z ≡ scratchPortion backing s st z may)
-  unfolding portion scratchPortion judge
-  portion-refused k e =
-      let r = refused-is (someLent backing) s k e in
-      rw (r .0) (sym (unless-refused k (refusedWith st) (portioned s st z may) (r .1)), sym (unless-refused k (λ n. z) (scratchPortioned s st z may) (r .1)))
+  unfolding portion scratchPortion
+  portion-refused k e = (sym (unless-refused backing s k e (refusedWith st) _), sym (unless-refused backing s k e (λ n. z) _))
 
   pub portion-accepted : (g : Geometry) → opened (someLent backing) s ≡ Accepted g → (p : Portion) (y : List ℕ) → p ≡ portioned s st z may → y ≡ scratchPortioned s st z may
       → (p ≡ portion backing s st z may) × (y ≡ scratchPortion backing s st z may)

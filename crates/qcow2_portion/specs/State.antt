@@ -14,7 +14,6 @@ use Rattle.qcow2_portions.specs.Rows.{Row, ahead, added, met, rootAfter, rowAft
 use Rattle.qcow2_portions.specs.Last.{lastVerdict}
 use Rattle.qcow2_portion.specs.declared.CheckState.{CheckState}
 use Rattle.qcow2_portion.specs.declared.CheckState.the-variants.{New, Going, Finished}
-use Rattle.qcow2_portion.specs.declared.Answer.{Answer}
 use Rattle.qcow2_portion.specs.declared.Answer.the-variants.{Refused, More, Told}
 use Rattle.qcow2_portion.specs.declared.Portion.{Portion}
 

@@ -12,7 +12,7 @@ use lib.Dec.{eqb, ltb}
 use lib.ListN.{length, take, drop}
 use Rattle.choice.specs.Pick.{if_then_else_}
 use Rattle.choice.proofs.Tests.{two-ways}
-use Rattle.endian.specs.Big.{be64, entries, part}
+use Rattle.endian.specs.Big.{entries, part}
 use Rattle.endian.proofs.Entries.{be64-drop, length-entries, entries-whole, entries-turn, entries-none}
 use Rattle.tally.specs.States.{twos}
 use Rattle.packed.proofs.Parts.{length-part}
@@ -25,6 +25,7 @@ use Rattle.qcow2_spec.specs.declared.Geometry.{Geometry}
 use Rattle.qcow2_spec.specs.declared.Verdict.{Verdict}
 use Rattle.qcow2_spec.specs.declared.Verdict.the-variants.{Sound, MarkL1, MarkL2}
 use Rattle.qcow2_groups.specs.Walks.{Room, fore, whole, onFrom}
+use Rattle.qcow2_groups.proofs.Fores.{fore-most}
 use Rattle.qcow2_refs.specs.Walks.{rowAt}
 use Rattle.qcow2_marks.specs.Marks.{right, Fair}
 use Rattle.qcow2_marks.proofs.Fairs.{l1-fair, l2-fair}
@@ -37,29 +38,6 @@ fore-same : (p q : ℕ → Bool) (es : List ℕ) → ((e : ℕ) → p e ≡ q e)
 unfolding fore
 fore-same p q [] h = refl
 fore-same p q (e ∷ es) h = rw (h e, fore-same p q es h)
-
-fore-most : (p : ℕ → Bool) (es : List ℕ) → fore p es ≤ length es
-unfolding fore
-fore-most p [] = omega arith
-fore-most p (e ∷ es) = go (p e) (fore-most p es)
-  where
-    go : (b : Bool) → fore p es ≤ length es → (if b then suc (fore p es) else 0) ≤ suc (length es)
-    go true h = omega arith
-    go false h = omega arith
-
--- those of a table from index j on: the first passes, the first does not, there is none
-module _ (p : ℕ → Bool) (t : List ℕ) (j : ℕ) where
-  pub fore-next : j < length t / 8 → p (be64 t (8 * j)) ≡ true → (j + 1) + fore p (onFrom (j + 1) t) ≡ j + fore p (onFrom j t)
-  unfolding fore
-  fore-next h e = rw (entries-turn (length t / 8) j t h, e) (omega arith)
-
-  pub fore-stop : j < length t / 8 → p (be64 t (8 * j)) ≡ false → j ≡ j + fore p (onFrom j t)
-  unfolding fore
-  fore-stop h e = rw (entries-turn (length t / 8) j t h, e) (sym (add-zero j))
-
-  pub fore-end : length t / 8 ≤ j → j ≡ j + fore p (onFrom j t)
-  unfolding fore
-  fore-end h = rw (entries-none (length t / 8) j t h) (sym (add-zero j))
 
 pub fore-whole : (p : ℕ → Bool) (t : List ℕ) → 0 + fore p (onFrom 0 t) ≡ fore p (whole t)
 fore-whole p t = rw (entries-whole (length t / 8) t) (omega arith)

@@ -19,13 +19,13 @@ use Rattle.qcow2_spec.specs.References.{l1Entries, l1Refs, fixedRefs}
 use Rattle.qcow2_spec.specs.Check.{orElse, l1Verdict}
 use Rattle.qcow2_spec.specs.declared.Verdict.{Verdict}
 use Rattle.qcow2_spec.specs.declared.Verdict.the-variants.{Sound}
+use Rattle.qcow2_spec.proofs.Else.{else-else, else-sound}
 use Rattle.qcow2_trees.specs.Walks.{rootsVisited}
 use Rattle.qcow2_trees.proofs.Roots.{roots-turn, roots-none}
 use Rattle.qcow2_forest.specs.Forest.{statesOf}
 use Rattle.qcow2_bad.proofs.Tables.{tableFound, tablesFrom, tables-turn, tables-none}
 use Rattle.qcow2_swept.specs.Rows.{seekBy}
 use Rattle.qcow2_swept.proofs.Seeks.{seekBy-bad}
-use Rattle.qcow2_swept.proofs.Verdicts.{else-else, else-sound}
 
 module _ (s : List ℕ) where
   -- the entries of an L1 table, all of them
@@ -106,7 +106,7 @@ module _ (s : List ℕ) where
   -- ---- the first bad entry: found so far, and then in the tables left
   pub found-next : (t : ℕ) (v u : Verdict) → t < roots s → u ≡ orElse v (tableFound s t) → orElse u (tablesFrom s (t + 1)) ≡ orElse v (tablesFrom s t)
   found-next t v u h e =
-      ap (λ (w : Verdict). orElse w (tablesFrom s (t + 1))) e ∙ else-else v (tableFound s t) (tablesFrom s (t + 1)) ∙ ap (orElse v) (sym (tables-turn s t h))
+      ap (λ (w : Verdict). orElse w (tablesFrom s (t + 1))) e ∙ sym (else-else v (tableFound s t) (tablesFrom s (t + 1))) ∙ ap (orElse v) (sym (tables-turn s t h))
 
   pub found-all : (t : ℕ) (v : Verdict) → roots s ≤ t → v ≡ orElse v (tablesFrom s t)
-  found-all t v h = else-sound v ∙ ap (orElse v) (sym (tables-none s t h))
+  found-all t v h = sym (else-sound v) ∙ ap (orElse v) (sym (tables-none s t h))

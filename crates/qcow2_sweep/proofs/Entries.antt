@@ -16,7 +16,7 @@ use Rattle.qcow2_spec.specs.Header.{mostLength}
 use Rattle.qcow2_spec.specs.Entries.{place, goodL2, common, alone}
 use Rattle.qcow2_spec.specs.References.{named, l2Refs}
 use Rattle.qcow2_groups.proofs.Walks.{zero-good}
-use Rattle.qcow2_groups.proofs.GoodEntries.{markOf, mark-one, Placed, placed-rest, placed-cluster, placed-far, good-ways, low-good, low-place, placed-good, placed-at}
+use Rattle.qcow2_groups.proofs.GoodEntries.{markOf, Placed, placed-cluster, placed-far, good-ways, rest-bad, low-good, low-place, placed-good, placed-at}
 use Rattle.qcow2_sweep.specs.Sweeps.{passesBy}
 
 -- ---- by the definitions
@@ -123,19 +123,8 @@ module _ (v b n e : ℕ) (least : 9 ≤ b) (small : n ≤ mostLength) (word : e 
   doubled-inside y wraps h = let s : 512 ≤ 2 ^ b = pow-mono least in (omega (arith, s, wraps, h, small), omega (arith, wraps, h, small))
 
   -- the rest is more than a mark
-  pub rest-bad : 2 ≤ x → markOf v < x % 2 ^ b → goodL2 v (2 ^ b) n e ≡ false
-  rest-bad some h = go (goodL2 v (2 ^ b) n e) refl
-    where
-      ways : (e ≤ markOf v) ⊎ Placed v (2 ^ b) n x → ⊥
-      ways (inl m) = omega (arith, m, some, mark-one v)
-      ways (inr w) = omega (arith, placed-rest v b n x least w, h)
-
-      go : (t : Bool) → goodL2 v (2 ^ b) n e ≡ t → t ≡ false
-      go true g = absurd (ways (good-ways v b n e least small word g))
-      go false g = refl
-
   pub rest-refs : 2 ≤ x → markOf v < x % 2 ^ b → l2Refs v (2 ^ b) n e ≡ []
-  rest-refs some h = bad-refs 0 v (2 ^ b) n e (rest-bad some h)
+  rest-refs some h = bad-refs 0 v (2 ^ b) n e (rest-bad v b n e least small word some h)
 
   -- there is a place
   module _ (w : Placed v (2 ^ b) n x) where

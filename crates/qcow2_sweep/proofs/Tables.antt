@@ -4,7 +4,7 @@ use Prim.Native.Nat.{ℕ, zero, suc, _+_, _-_, _*_, _≤_, _<_}
 use mathlib.Core.Path.{_≡_, refl, sym, ap, _∙_}
 use mathlib.Core.Bool.{Bool, true, false, _&&_, and-assoc, and-true}
 use mathlib.Core.List.{List, [], _∷_, _++_, append-assoc}
-use native.Mathlib.Nat.{add-zero, zero-add}
+use native.Mathlib.Nat.{zero-add}
 use native.Mathlib.Omega.{arith}
 use borrow.Author.Tests.{eq-eqb, ne-eqb, eqb-true, eqb-false}
 use lib.Dec.{eqb}
@@ -20,21 +20,13 @@ use Rattle.window.specs.Window.{Board, visitAllIn}
 use Rattle.window.proofs.Steps.{visitAllIn-append, visitAllIn-none}
 use Rattle.qcow2_spec.specs.References.{l2Refs}
 use Rattle.qcow2_groups.specs.Walks.{fore, fronted}
+use Rattle.qcow2_groups.proofs.Fores.{fore-most}
 use Rattle.qcow2_sweep.specs.Sweeps.{passesBy, group}
 use Rattle.qcow2_sweep.proofs.Entries.{zero-passes, zero-refs}
 
 -- ---- entry by entry, of those from i up to end
 pub group-first : (i : ℕ) (t : List ℕ) → entries (i + 64 - i) (drop (8 * i) t) ≡ group t i
 group-first i t = let e : i + 64 - i ≡ 64 = omega arith in rw e
-
-module _ (kind b : ℕ) (f : ℕ → List ℕ) (k j : ℕ) (t : List ℕ) (w : Board) where
-  pub visits-turn : j < k
-      → visitAllIn kind b (joined f (entries (k - j) (drop (8 * j) t))) w
-      ≡ visitAllIn kind b (joined f (entries (k - (j + 1)) (drop (8 * (j + 1)) t))) (visitAllIn kind b (f (be64 t (8 * j))) w)
-  visits-turn h = rw (entries-turn k j t h) (visitAllIn-append kind b (f (be64 t (8 * j))) _ w)
-
-  pub visits-end : k ≤ j → visitAllIn kind b (joined f (entries (k - j) (drop (8 * j) t))) w ≡ w
-  visits-end h = rw (entries-none k j t h) (sym (visitAllIn-none kind b w))
 
 module _ (p : ℕ → Bool) (k j : ℕ) (t : List ℕ) where
   pub all-turn : (a g : Bool) → j < k → g ≡ p (be64 t (8 * j))
@@ -43,18 +35,6 @@ module _ (p : ℕ → Bool) (k j : ℕ) (t : List ℕ) where
 
   pub all-end : (a : Bool) → k ≤ j → (a && all p (entries (k - j) (drop (8 * j) t))) ≡ a
   all-end a h = rw (entries-none k j t h) (and-true a)
-
-  pub fore-turn : j < k → p (be64 t (8 * j)) ≡ true → j + fore p (entries (k - j) (drop (8 * j) t)) ≡ j + 1 + fore p (entries (k - (j + 1)) (drop (8 * (j + 1)) t))
-  unfolding fore
-  fore-turn h e = rw (entries-turn k j t h, e) (omega arith)
-
-  pub fore-stop : j < k → p (be64 t (8 * j)) ≡ false → j + fore p (entries (k - j) (drop (8 * j) t)) ≡ j
-  unfolding fore
-  fore-stop h e = rw (entries-turn k j t h, e) (add-zero j)
-
-  pub fore-end : k ≤ j → j + fore p (entries (k - j) (drop (8 * j) t)) ≡ j
-  unfolding fore
-  fore-end h = rw (entries-none k j t h) (add-zero j)
 
 -- ---- fronts
 pub fore-full : (p : ℕ → Bool) (es : List ℕ) → all p es ≡ true → fore p es ≡ length es
@@ -76,15 +56,6 @@ fore-append p (e ∷ a) b = go (p e) (fore-append p a b)
         → (if t then suc (fore p (a ++ b)) else 0) ≡ (if eqb (if t then suc (fore p a) else 0) (suc (length a)) then suc (length a) + fore p b else if t then suc (fore p a) else 0)
     go true r = ap suc r ∙ more (eqb (fore p a) (length a)) refl
     go false r = rw (ne-eqb 0 (suc (length a)) (λ z. omega arith))
-
-fore-most : (p : ℕ → Bool) (es : List ℕ) → fore p es ≤ length es
-unfolding fore
-fore-most p [] = omega arith
-fore-most p (e ∷ es) = go (p e) (fore-most p es)
-  where
-    go : (t : Bool) → fore p es ≤ length es → (if t then suc (fore p es) else 0) ≤ suc (length es)
-    go true h = omega arith
-    go false h = omega arith
 
 -- a group more, behind j entries of which r pass at the front
 pub group-front : (p : ℕ → Bool) (r r′ j k : ℕ) (a b : List ℕ) → r ≤ j → length a ≡ k → r′ ≡ (if eqb r j then j + fore p a else r)

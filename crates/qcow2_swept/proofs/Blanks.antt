@@ -23,8 +23,9 @@ use Rattle.qcow2_spec.specs.Check.{orElse, entryVerdict, l1Verdict}
 use Rattle.qcow2_spec.specs.declared.Verdict.{Verdict}
 use Rattle.qcow2_spec.specs.declared.Verdict.the-variants.{Sound}
 use Rattle.qcow2_spec.proofs.Facts.{all-entries}
+use Rattle.qcow2_spec.proofs.Else.{else-sound}
 use Rattle.qcow2_swept.specs.Rows.{passesL1By, seekBy, Blank}
-use Rattle.qcow2_swept.proofs.Verdicts.{else-sound, rows-turn}
+use Rattle.qcow2_swept.proofs.Verdicts.{rows-turn}
 use Rattle.qcow2_swept.proofs.Tables.{tree-turn}
 
 -- ---- searching
@@ -84,7 +85,7 @@ module _ (s : List ℕ) where
         let x : entryVerdict s (seekBy kind s t) i (be64 l (8 * i)) Sound ≡ Sound = rw (z i (omega arith) (omega arith)) (zero-row kind t i) in
         rows-turn kind s t to i l found (omega arith)
         ∙ ap (λ (v : Verdict). orElse (orElse found v) (l1Verdict s (seekBy kind s t) (i + 1) (entries (to - (i + 1)) (drop (8 * (i + 1)) l)) Sound)) x
-        ∙ ap (λ (v : Verdict). orElse v (l1Verdict s (seekBy kind s t) (i + 1) (entries (to - (i + 1)) (drop (8 * (i + 1)) l)) Sound)) (sym (else-sound found))
+        ∙ ap (λ (v : Verdict). orElse v (l1Verdict s (seekBy kind s t) (i + 1) (entries (to - (i + 1)) (drop (8 * (i + 1)) l)) Sound)) (else-sound found)
         ∙ rows-skip n (i + 1) r (omega arith) h (λ k a b. z k (omega arith) b)
 
   module _ (table leaf b to : ℕ) (l : List ℕ) where

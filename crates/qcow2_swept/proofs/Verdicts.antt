@@ -1,4 +1,4 @@
--- Laws of verdicts: the first of two that is not sound, and the verdict by how an L1 entry fares.
+-- Laws of verdicts: the verdict by how an L1 entry fares.
 -- Assumes nothing.
 use Prim.Native.Nat.{ℕ, suc, _+_, _-_, _*_, _≤_, _<_}
 use mathlib.Core.Path.{_≡_, refl, sym, ap, _∙_}
@@ -17,33 +17,11 @@ use Rattle.qcow2_spec.specs.Entries.{place}
 use Rattle.qcow2_spec.specs.References.{l2Entries}
 use Rattle.qcow2_spec.specs.Check.{orElse, l2Verdict, entryVerdict, l1Verdict}
 use Rattle.qcow2_spec.specs.declared.Verdict.{Verdict}
-use Rattle.qcow2_spec.specs.declared.Verdict.the-variants.{Sound, Leaks, BadL1, BadL2, Shared, Short, MarkL1, MarkL2, Refused}
-use Rattle.qcow2_spec.proofs.Else.{Damage, l1-else}
+use Rattle.qcow2_spec.specs.declared.Verdict.the-variants.{Sound, BadL1, BadL2}
+use Rattle.qcow2_spec.proofs.Else.{else-else, else-sound, Damage, entry-else}
 use Rattle.qcow2_groups.specs.Walks.{fore}
 use Rattle.qcow2_sweep.specs.Sweeps.{passesBy}
 use Rattle.qcow2_swept.specs.Rows.{passesL1By, seekBy, rowFore, namedBy}
-
-pub else-else : (a b c : Verdict) → orElse (orElse a b) c ≡ orElse a (orElse b c)
-else-else Sound b c = refl
-else-else (Leaks m) b c = refl
-else-else (BadL1 t i) b c = refl
-else-else (BadL2 t i j) b c = refl
-else-else (Shared k) b c = refl
-else-else (Short k) b c = refl
-else-else (MarkL1 i) b c = refl
-else-else (MarkL2 i j) b c = refl
-else-else (Refused k) b c = refl
-
-pub else-sound : (a : Verdict) → a ≡ orElse a Sound
-else-sound Sound = refl
-else-sound (Leaks m) = refl
-else-sound (BadL1 t i) = refl
-else-sound (BadL2 t i j) = refl
-else-sound (Shared k) = refl
-else-sound (Short k) = refl
-else-sound (MarkL1 i) = refl
-else-sound (MarkL2 i j) = refl
-else-sound (Refused k) = refl
 
 -- ---- by how many pass at the front
 module _ (t i fore per : ℕ) where
@@ -63,10 +41,6 @@ module _ (kind : ℕ) (s : List ℕ) (t : ℕ) where
   pub seek-damage : Damage (seekBy kind s t)
   unfolding seekBy
   seek-damage = record { first = λ i next. refl; second = λ i j next. refl }
-
-  pub entry-else : (i e : ℕ) (next : Verdict) → entryVerdict s (seekBy kind s t) i e next ≡ orElse (entryVerdict s (seekBy kind s t) i e Sound) next
-  unfolding l1Verdict
-  entry-else i e next = l1-else s (seekBy kind s t) seek-damage i (e ∷ []) next
 
   -- j entries are behind
   l2-named : (i j : ℕ) (es : List ℕ) → l2Verdict (seekBy kind s t) i j es Sound ≡ namedBy t i (j + fore (passesBy kind (version s) (clusterSize s) (length s)) es) (j + length es)
@@ -112,8 +86,8 @@ module _ (kind : ℕ) (s : List ℕ) (t : ℕ) where
   rows-turn k j l found h =
       let n : suc j ≡ j + 1 = omega arith in
       let r : Verdict = l1Verdict s (seekBy kind s t) (j + 1) (entries (k - (j + 1)) (drop (8 * (j + 1)) l)) Sound in
-      rw (entries-turn k j l h, n) (ap (orElse found) (entry-else j (be64 l (8 * j)) r) ∙ sym (else-else found (entryVerdict s (seekBy kind s t) j (be64 l (8 * j)) Sound) r))
+      rw (entries-turn k j l h, n) (ap (orElse found) (entry-else s (seekBy kind s t) seek-damage j (be64 l (8 * j)) r) ∙ else-else found (entryVerdict s (seekBy kind s t) j (be64 l (8 * j)) Sound) r)
 
   pub rows-end : (k j : ℕ) (l : List ℕ) (found : Verdict) → k ≤ j → orElse found (l1Verdict s (seekBy kind s t) j (entries (k - j) (drop (8 * j) l)) Sound) ≡ found
   unfolding l1Verdict
-  rows-end k j l found h = rw (entries-none k j l h) (sym (else-sound found))
+  rows-end k j l found h = rw (entries-none k j l h) (else-sound found)

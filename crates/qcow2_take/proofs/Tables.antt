@@ -1,12 +1,11 @@
 -- Entries of one L1 table are taken: what is left to be taken ends as before.
 -- Assumes nothing.
-use Prim.Native.Nat.{ℕ, suc, _+_, _-_, _*_, _≤_, _<_, min}
-use native.Mathlib.Nat.{add-zero, sub-zero}
+use Prim.Native.Nat.{ℕ, _+_, _-_, _*_, _≤_, _<_, min}
 use native.Mathlib.Numerals.{add-one}
 use native.Mathlib.Omega.{arith}
-use mathlib.Core.Path.{_≡_, refl, sym, ap, ap₂, _∙_}
+use mathlib.Core.Path.{_≡_, refl, sym, ap, _∙_}
 use mathlib.Core.Logic.{_⊎_, inl, inr, _≢_}
-use mathlib.Core.Bool.{Bool, true, false}
+use mathlib.Core.Bool.{true, false}
 use mathlib.Core.List.{List, [], _∷_, _++_}
 use lib.Dec.{ltb}
 use lib.ListN.{length, take, drop, length-take, length-drop}
@@ -14,13 +13,12 @@ use lib.Seq.{take-all}
 use borrow.Author.Tests.{ltb-true, ltb-false}
 use Rattle.choice.proofs.Tests.{two-ways}
 use Rattle.endian.proofs.Entries.{length-entries}
-use Rattle.tally.specs.Tally.{joined, bumpAllWide}
 use Rattle.tally.proofs.States.{treeVisited-count}
 use Rattle.window.specs.Window.{Board, board, bitKind, treeVisitedIn}
 use Rattle.window.proofs.Numbers.{treeVisitedIn-whole}
 use Rattle.qcow2_spec.specs.Header.{roots, rootSize, rootAt}
 use Rattle.qcow2_spec.specs.References.{l1Entries, l1Refs}
-use Rattle.qcow2_spec.specs.Check.{orElse, l1Verdict, badIn}
+use Rattle.qcow2_spec.specs.Check.{orElse, l1Verdict}
 use Rattle.qcow2_spec.specs.declared.Verdict.{Verdict}
 use Rattle.qcow2_spec.specs.declared.Verdict.the-variants.{Sound}
 use Rattle.qcow2_swept.specs.Rows.{seekBy}
@@ -28,7 +26,7 @@ use Rattle.qcow2_swept.proofs.Seeks.{seekBy-bad}
 use Rattle.qcow2_portions.specs.Rows.{Row, rowsOf, ahead, added, met, rootAfter, rowAfter}
 use Rattle.qcow2_portions.proofs.Rows.{added-append, met-append, added-rows, met-rows, take-within, take-across, length-ahead, length-ahead-out, rootAfter-rows, rowAfter-rows, rootAfter-append, rowAfter-append}
 use Rattle.qcow2_take.specs.declared.Taking.{Taking}
-use Rattle.qcow2_take.specs.Taking.{toTake, tablesLeft, Takes}
+use Rattle.qcow2_take.specs.Taking.{toTake, Takes}
 
 counts : 0 ≢ bitKind
 counts e = omega (arith, e)

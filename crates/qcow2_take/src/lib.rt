@@ -2,7 +2,6 @@
 ghost use mathlib.Core.Path.{_≡_};
 ghost use Prim.Native.Nat.{_-_, _*_, _≤_, _<_};
 ghost use lib.ListN.{length, take as takeOf};
-ghost use Rattle.qcow2_spec.specs.Header.{roots};
 ghost use Rattle.qcow2_spec.specs.Opened.{Active};
 ghost use Rattle.qcow2_portions.specs.Rows.{ahead, added, met, rootAfter, rowAfter, started};
 ghost use Rattle.qcow2_take.specs.Taking.{Takes};

@@ -1,18 +1,16 @@
 -- What windows of bits and of states tell.
 -- Assumes nothing.
-use Prim.Native.Nat.{ℕ, _+_, _*_, _/_, _≤_, _<_, min, zero-le}
+use Prim.Native.Nat.{ℕ, _*_, _≤_, _<_, zero-le}
 use native.Mathlib.Omega.{arith}
 use mathlib.Core.Path.{_≡_, refl, sym, ap, _∙_}
-use mathlib.Core.Logic.{_⊎_, inl, inr}
 use mathlib.Core.Bool.{Bool, true, false, not, _&&_, _||_, true≢false}
 use mathlib.Core.List.{List, [], _∷_}
-use lib.Dec.{ltb, eqb}
-use lib.ListN.{length, getD}
+use lib.Dec.{eqb}
+use lib.ListN.{length}
 use borrow.Author.Tests.{ltb-false}
 use Rattle.choice.specs.Pick.{all, first}
 use Rattle.choice.proofs.Runs.{first-passed}
 use Rattle.choice.proofs.Tests.{and-true}
-use Rattle.endian.specs.Big.{be16}
 use Rattle.tally.specs.Tally.{occurrences}
 use Rattle.tally.proofs.Laws.{length-figures}
 use Rattle.packed_twos.specs.Twos.{many, figuresIn}

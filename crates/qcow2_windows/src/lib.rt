@@ -1,6 +1,5 @@
 // The lowest shared cluster by an image's own bytes, window by window, and what the sweeps tell of entries and marks.
 ghost use mathlib.Core.Path.{_≡_};
-ghost use mathlib.Core.Bool.{_&&_};
 ghost use Prim.Native.Nat.{_*_, _≤_};
 ghost use lib.ListN.{length};
 ghost use Rattle.qcow2_spec.specs.Opened.{Active};
@@ -15,16 +14,6 @@ pub struct Looked {
     pub right: bool,
 }
 
-// Whether both hold.
-fn both(a: bool, b: bool) -> bool
-    ensures { λ r. ⌜ r ≡ (a && b) ⌝ }
-{
-    if a {
-        return b;
-    }
-    false
-}
-
 // By a window of any length. Without snapshots a bit for each cluster is enough.
 fn look_in(image: &[u8], scratch: &[u8], window: &mut [u8], g: Geometry) -> Looked
     requires { ⌜ (Active g (now image) × (length (now scratch) ≡ 2 * g .clusters)) × (2 ≤ length (now window)) ⌝ }
@@ -35,7 +24,7 @@ fn look_in(image: &[u8], scratch: &[u8], window: &mut [u8], g: Geometry) -> Look
         return Looked {
             shared: w.shared,
             good: w.own,
-            right: both(w.own, w.same),
+            right: qcow2_sweep::both(w.own, w.same),
         };
     }
     let w = qcow2_states::look(image, window, g);

@@ -2,14 +2,15 @@
 -- Assumes nothing.
 use Prim.Native.Nat.{ℕ, suc, _+_, _-_, _*_, _/_, _≤_, _<_, min}
 use native.Mathlib.Omega.{arith}
-use mathlib.Core.Path.{_≡_, refl, sym, ap, ap₂, _∙_}
+use mathlib.Core.Path.{_≡_, refl, sym, _∙_}
 use mathlib.Core.Logic.{_≢_}
 use mathlib.Core.List.{List, [], _∷_, _++_}
-use lib.Dec.{ltb, eqb}
-use lib.ListN.{length}
+use lib.ListN.{length, drop}
 use borrow.Author.Tests.{eq-eqb, ne-eqb, lt-ltb, le-ltb}
 use Rattle.widths.specs.Width.{number, stored}
-use Rattle.tally.specs.Tally.{run}
+use Rattle.endian.specs.Big.{be64, entries}
+use Rattle.endian.proofs.Entries.{entries-turn, entries-none}
+use Rattle.tally.specs.Tally.{run, joined}
 use Rattle.tally.specs.States.{visited}
 use Rattle.window.specs.Window.{Board, board, bitKind, bitVisited, numberVisited, visitedIn, visitAllIn}
 
@@ -61,6 +62,16 @@ visitAllIn-none kind b w = refl
 pub visitAllIn-one : (kind b c : ℕ) (w : Board) → visitedIn kind b c w ≡ visitAllIn kind b (c ∷ []) w
 unfolding visitAllIn
 visitAllIn-one kind b c w = refl
+
+-- what the entries of a table from j of k on refer to: entry j first; nothing at the end
+module _ (kind b : ℕ) (f : ℕ → List ℕ) (k j : ℕ) (t : List ℕ) (w : Board) where
+  pub visitAllIn-turn : j < k
+      → visitAllIn kind b (joined f (entries (k - j) (drop (8 * j) t))) w
+      ≡ visitAllIn kind b (joined f (entries (k - (j + 1)) (drop (8 * (j + 1)) t))) (visitAllIn kind b (f (be64 t (8 * j))) w)
+  visitAllIn-turn h = rw (entries-turn k j t h) (visitAllIn-append kind b (f (be64 t (8 * j))) _ w)
+
+  pub visitAllIn-end : k ≤ j → visitAllIn kind b (joined f (entries (k - j) (drop (8 * j) t))) w ≡ w
+  visitAllIn-end h = rw (entries-none k j t h) (sym (visitAllIn-none kind b w))
 
 -- one of the k - j turns of a run
 pub run-turn : (kind b i k j : ℕ) (w : Board) → j < k

@@ -7,10 +7,10 @@ use denote.Ref.{now}
 use Rattle.endian.specs.Big.{entries}
 use Rattle.tally.specs.Tally.{joined}
 use Rattle.window.specs.Window.{board, visitAllIn}
+use Rattle.window.proofs.Steps.{visitAllIn-turn, visitAllIn-end}
 use Rattle.qcow2_spec.specs.Header.{table, blocks, blockAt, tableAt}
 use Rattle.qcow2_spec.specs.References.{named}
 use Rattle.endian.proofs.Entries.{be64-drop, take-entries}
-use Rattle.qcow2_fixed.proofs.Runs.{refs-turn, refs-end}
 use Rattle.qcow2_fixed.proofs.visit_blocks.Statement.{statement}
 use Rattle.qcow2_fixed.proofs.visit_blocks.Tie as tie
 
@@ -38,7 +38,7 @@ loop-again c =
     let t = c .before .before .before .before .before .before .before .loop in
     let a = c .before .before .before .before .before .before .before .before .before .before .args in
     let s = now (a .image) in
-    let k = refs-turn (a .kind) (a .b) (named (2 ^ a .g .bits)) (a .g .blocks) (t .i) (drop (tableAt s) s) (board (t .target) (t .least)) (c .before .before .before .before .before .if1 .taken) in
+    let k = visitAllIn-turn (a .kind) (a .b) (named (2 ^ a .g .bits)) (a .g .blocks) (t .i) (drop (tableAt s) s) (board (t .target) (t .least)) (c .before .before .before .before .before .if1 .taken) in
     (search needs, search needs, rw (c .before .before .visit-place .ensures, c .before .before .before .before .block-at .ensures .0, ← be64-drop s (tableAt s) (8 * t .i)) (sym k ∙ t .inv .2))
 
 returns : tie.Need-returns Inv-loop μ-loop
@@ -51,7 +51,7 @@ returns c =
     let s = now (a .image) in
     let k : blocks s ≤ _ = rw (o .is-blocks) at (o .blocks-fit) in
     rw (take-entries _ _ (drop (tableAt s) s) k, ← o .is-blocks, ← o .is-cluster)
-    (sym (refs-end (a .kind) (a .b) (named (2 ^ a .g .bits)) (a .g .blocks) (t .i) (drop (tableAt s) s) (board (t .target) (t .least)) (c .if1 .left)) ∙ t .inv .2)
+    (sym (visitAllIn-end (a .kind) (a .b) (named (2 ^ a .g .bits)) (a .g .blocks) (t .i) (drop (tableAt s) s) (board (t .target) (t .least)) (c .if1 .left)) ∙ t .inv .2)
 
 pub visit-blocks-spec : {M : Type 1} → statement M
 visit-blocks-spec =

@@ -1,7 +1,6 @@
 use borrow.Author.Needs.{needs}
 use native.Mathlib.Omega.{arith}
-use mathlib.Core.Path.{_≡_, _∙_}
-use lib.ListN.{length}
+use mathlib.Core.Path.{_∙_}
 use denote.Ref.{now}
 use Rattle.qcow2_portion.proofs.Taking.{figures-told, taken-more, taken-last}
 use Rattle.qcow2_portion.proofs.taken.Statement.{statement}

@@ -5,8 +5,9 @@ use borrow.Author.Tests.{not-false, not-true}
 use denote.Ref.{now}
 use Rattle.endian.specs.Big.{be64}
 use Rattle.qcow2_groups.specs.Walks.{fore, whole, onFrom}
+use Rattle.qcow2_groups.proofs.Fores.{fore-turn, fore-stop, fore-end}
 use Rattle.qcow2_remark.specs.Fores.{rightL2}
-use Rattle.qcow2_remark.proofs.Marking.{fore-whole, fore-next, fore-stop, fore-end}
+use Rattle.qcow2_remark.proofs.Marking.{fore-whole}
 use Rattle.qcow2_remark.proofs.table_fore.Statement.{statement}
 use Rattle.qcow2_remark.proofs.table_fore.Tie as tie
 
@@ -32,7 +33,7 @@ returns c =
     let p = rightL2 (a .version) (2 ^ a .bits) (a .n) (now (a .scratch)) in
     let l = c .before .before .before .before .loop in
     let e = not-true (p (be64 (now (a .table)) (8 * l .j))) (rw (c .before .before .load64 .ensures) at (sym (c .before .wrong-mark .ensures) ∙ c .if1 .taken)) in
-    fore-stop p (now (a .table)) (l .j) (c .before .before .before .loop-test .taken) e ∙ l .inv
+    sym (fore-stop p _ (l .j) (now (a .table)) (c .before .before .before .loop-test .taken) e) ∙ l .inv
 
 loop-again : tie.Need-loop-again Inv-loop μ-loop
 loop-again c =
@@ -40,14 +41,14 @@ loop-again c =
     let p = rightL2 (a .version) (2 ^ a .bits) (a .n) (now (a .scratch)) in
     let l = c .before .before .before .before .loop in
     let e = not-false (p (be64 (now (a .table)) (8 * l .j))) (rw (c .before .before .load64 .ensures) at (sym (c .before .wrong-mark .ensures) ∙ c .if1 .left)) in
-    fore-next p (now (a .table)) (l .j) (c .before .before .before .loop-test .taken) e ∙ l .inv
+    sym (fore-turn p _ (l .j) (now (a .table)) (c .before .before .before .loop-test .taken) e) ∙ l .inv
 
 returns-2 : tie.Need-returns-2 Inv-loop μ-loop
 returns-2 c =
     let a = c .before .before .before .before .args in
     let p = rightL2 (a .version) (2 ^ a .bits) (a .n) (now (a .scratch)) in
     let l = c .before .loop in
-    fore-end p (now (a .table)) (l .j) (c .loop-test .left) ∙ l .inv
+    sym (fore-end p _ (l .j) (now (a .table)) (c .loop-test .left)) ∙ l .inv
 
 pub table-fore-spec : {M : Type 1} → statement M
 table-fore-spec =

@@ -6,8 +6,9 @@ use lib.ListN.{drop}
 use denote.Ref.{now}
 use Rattle.endian.specs.Big.{be64, entries}
 use Rattle.qcow2_groups.specs.Walks.{fore}
+use Rattle.qcow2_groups.proofs.Fores.{fore-turn, fore-stop, fore-end}
 use Rattle.qcow2_sweep.specs.Sweeps.{passesBy, group}
-use Rattle.qcow2_sweep.proofs.Tables.{group-first, fore-turn, fore-stop, fore-end}
+use Rattle.qcow2_sweep.proofs.Tables.{group-first}
 use Rattle.qcow2_sweep.proofs.first_failing.Statement.{statement}
 use Rattle.qcow2_sweep.proofs.first_failing.Tie as tie
 

@@ -8,9 +8,10 @@ use Rattle.choice.specs.Pick.{all}
 use Rattle.endian.specs.Big.{entries}
 use Rattle.tally.specs.Tally.{joined}
 use Rattle.window.specs.Window.{board, visitAllIn}
+use Rattle.window.proofs.Steps.{visitAllIn-turn, visitAllIn-end}
 use Rattle.qcow2_spec.specs.References.{l2Refs}
 use Rattle.qcow2_sweep.specs.Sweeps.{passesBy, group}
-use Rattle.qcow2_sweep.proofs.Tables.{group-first, visits-turn, visits-end, all-turn, all-end}
+use Rattle.qcow2_sweep.proofs.Tables.{group-first, all-turn, all-end}
 use Rattle.qcow2_sweep.proofs.sweep_each.Statement.{statement}
 use Rattle.qcow2_sweep.proofs.sweep_each.Tie as tie
 
@@ -44,7 +45,7 @@ loop-again c =
       search needs,
       search needs,
       rw (c .both .ensures) (all-turn (passesBy (a .kind) (a .version) (2 ^ a .bits) (a .n)) _ (t .loop .j) T (t .loop .good) (s .result .good) k (rw (← l) (s .ensures .0)) ∙ t .loop .inv .2),
-      rw (s .ensures .1, l) (sym (visits-turn (a .kind) (a .b) (l2Refs (a .version) (2 ^ a .bits) (a .n)) _ (t .loop .j) T (board (t .loop .target) (t .loop .least)) k) ∙ t .loop .inv .3),
+      rw (s .ensures .1, l) (sym (visitAllIn-turn (a .kind) (a .b) (l2Refs (a .version) (2 ^ a .bits) (a .n)) _ (t .loop .j) T (board (t .loop .target) (t .loop .least)) k) ∙ t .loop .inv .3),
     )
 
 returns : tie.Need-returns Inv-loop μ-loop
@@ -54,7 +55,7 @@ returns c =
     let T = now (a .table) in
     let k = c .loop-test .left in (
       sym (all-end (passesBy (a .kind) (a .version) (2 ^ a .bits) (a .n)) _ (t .loop .j) T (t .loop .good) k) ∙ t .loop .inv .2,
-      sym (visits-end (a .kind) (a .b) (l2Refs (a .version) (2 ^ a .bits) (a .n)) _ (t .loop .j) T (board (t .loop .target) (t .loop .least)) k) ∙ t .loop .inv .3,
+      sym (visitAllIn-end (a .kind) (a .b) (l2Refs (a .version) (2 ^ a .bits) (a .n)) _ (t .loop .j) T (board (t .loop .target) (t .loop .least)) k) ∙ t .loop .inv .3,
     )
 
 pub sweep-each-spec : {M : Type 1} → statement M

@@ -8,8 +8,8 @@ use Rattle.window.proofs.Steps.{visitAllIn-none, visitAllIn-one}
 use Rattle.qcow2_spec.specs.References.{l2Refs}
 use Rattle.qcow2_plain.specs.Plain.{bare}
 use Rattle.qcow2_plain.proofs.Doubled.{bare-rest}
-use Rattle.qcow2_groups.proofs.GoodEntries.{markOf, some-bytes, Placed, placed-of}
-use Rattle.qcow2_sweep.proofs.Entries.{bad-fails, doubled-cluster, out-passes, out-refs, doubled-inside, rest-bad, rest-refs, placed-refs, placed-bits, placed-else}
+use Rattle.qcow2_groups.proofs.GoodEntries.{markOf, some-bytes, Placed, placed-of, rest-bad}
+use Rattle.qcow2_sweep.proofs.Entries.{bad-fails, doubled-cluster, out-passes, out-refs, doubled-inside, rest-refs, placed-refs, placed-bits, placed-else}
 use Rattle.qcow2_sweep.proofs.sweep_entry.Statement.{statement}
 use Rattle.qcow2_sweep.proofs.sweep_entry.Tie as tie
 

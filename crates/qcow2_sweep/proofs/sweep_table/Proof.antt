@@ -7,10 +7,11 @@ use denote.Ref.{now}
 use Rattle.endian.proofs.Entries.{entries-whole}
 use Rattle.tally.specs.Tally.{joined}
 use Rattle.window.specs.Window.{board, visitAllIn}
+use Rattle.window.proofs.Steps.{visitAllIn-end}
 use Rattle.qcow2_spec.specs.References.{l2Refs}
 use Rattle.qcow2_groups.specs.Walks.{fore, fronted, whole, onFrom}
 use Rattle.qcow2_sweep.specs.Sweeps.{passesBy}
-use Rattle.qcow2_sweep.proofs.Tables.{group-visits, group-fronted, fronted-first, fronted-end, visits-end}
+use Rattle.qcow2_sweep.proofs.Tables.{group-visits, group-fronted, fronted-first, fronted-end}
 use Rattle.qcow2_sweep.proofs.sweep_table.Statement.{statement}
 use Rattle.qcow2_sweep.proofs.sweep_table.Tie as tie
 
@@ -61,7 +62,7 @@ returns c =
     let T = now (a .table) in
     let k = c .loop-test .left in (
       sym (fronted-end (passesBy (a .kind) (a .version) (2 ^ a .bits) (a .n)) (t .loop .r) (length T / 8) (t .loop .j) T k) ∙ t .loop .inv .3,
-      sym (visits-end (a .kind) (a .b) (l2Refs (a .version) (2 ^ a .bits) (a .n)) (length T / 8) (t .loop .j) T (board (t .loop .target) (t .loop .least)) k) ∙ t .loop .inv .4,
+      sym (visitAllIn-end (a .kind) (a .b) (l2Refs (a .version) (2 ^ a .bits) (a .n)) (length T / 8) (t .loop .j) T (board (t .loop .target) (t .loop .least)) k) ∙ t .loop .inv .4,
     )
 
 pub sweep-table-spec : {M : Type 1} → statement M

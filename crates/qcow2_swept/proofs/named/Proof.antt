@@ -1,12 +1,13 @@
 use borrow.Author.Needs.{needs}
 use mathlib.Core.Path.{sym}
 use native.Mathlib.Omega.{arith}
-use Rattle.qcow2_swept.proofs.Verdicts.{else-sound, named-sound, named-below, named-row}
+use Rattle.qcow2_spec.proofs.Else.{else-sound}
+use Rattle.qcow2_swept.proofs.Verdicts.{named-sound, named-below, named-row}
 use Rattle.qcow2_swept.proofs.named.Statement.{statement}
 use Rattle.qcow2_swept.proofs.named.Tie as tie
 
 returns : tie.Need-returns
-returns c = let a = c .before .args in rw (named-sound (a .t) (a .i) (a .fore) (a .per) (c .if1 .taken)) (else-sound (a .found))
+returns c = let a = c .before .args in rw (named-sound (a .t) (a .i) (a .fore) (a .per) (c .if1 .taken)) (sym (else-sound (a .found)))
 
 returns-2 : tie.Need-returns-2
 returns-2 c = let a = c .before .before .before .before .args in rw (c .before .enum-told .given .1) (sym (named-below (a .t) (a .i) (a .fore) (a .per) (c .if2 .taken)))

@@ -1,8 +1,7 @@
 use borrow.Author.Needs.{needs}
-use borrow.Author.Tests.{not-false}
 use native.Mathlib.Omega.{arith}
 use Prim.Native.Nat.{_-_, _≤_}
-use mathlib.Core.Path.{_≡_, sym, _∙_}
+use mathlib.Core.Path.{sym, _∙_}
 use denote.Ref.{now}
 use Rattle.qcow2_swept.specs.Rows.{Blank}
 use Rattle.qcow2_swept.proofs.Blanks.{blank-none, blank-one}

@@ -1,9 +1,8 @@
 use borrow.Author.Needs.{needs}
 use native.Mathlib.Omega.{arith}
 use Prim.Native.Nat.{_≤_}
-use mathlib.Core.Path.{_≡_, refl, sym, ap, _∙_}
-use lib.ListN.{length, take}
-use denote.Ref.{now}
+use mathlib.Core.Path.{_≡_, refl, _∙_}
+use lib.ListN.{length}
 use Rattle.qcow2_portions.specs.Rows.{ahead, added, met, rootAfter, rowAfter}
 use Rattle.qcow2_take.specs.Taking.{toTake, tablesLeft}
 use Rattle.qcow2_take.proofs.take.Statement.{statement}
