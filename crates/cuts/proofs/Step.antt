@@ -423,9 +423,8 @@ module _ (g : Geo) (K : Codec) (ok : GeoOk g K) (m : ℕ → ℕ → ℕ) (s : S
       unfolding gread
       entry-read x h d = rw (entry-dat-new, entry-mark-new, st .cluster (K .clus v) x h d)
 
-    -- one L1 entry, from none to the table t
-    module _ (i j t : ℕ) (l : i < g .L) (hi : Has g i) (k : j < g .E) (z : tab g K m i ≡ 0) (tN : t < g .N) (free : refsOf g K m t ≡ 0)
-        (st : Stored (g .C) m m′ (row g i) (8 * col g i) (enc 8 (K .mk t))) where
+    -- one L1 entry gets the table t
+    module _ (i t : ℕ) (l : i < g .L) (hi : Has g i) (tN : t < g .N) (st : Stored (g .C) m m′ (row g i) (8 * col g i) (enc 8 (K .mk t))) where
       at-tree : i / g .M < suc (g .T)
       at-tree = omega (arith, tree-in g K ok i l)
 
@@ -446,12 +445,6 @@ module _ (g : Geo) (K : Codec) (ok : GeoOk g K) (m : ℕ → ℕ → ℕ) (s : S
 
       pub at-not-0 : row g i ≢ 0
       at-not-0 = l1-0 g m (row g i) (i / g .M) (i % g .M / g .E) at-tree at-row at-one refl
-
-      t-not-0 : t ≢ 0
-      t-not-0 = free-not-0 t free
-
-      t-not-at : t ≢ row g i
-      t-not-at e = omega (arith, at-fix, refs-fix (g .L) (g .E) (fix g m) (tab g K m) (dat g K m) t, ap (fix g m) e)
 
       pub link-rt : (a : ℕ) → a < g .rtn * g .E → rt g m′ a ≡ rt g m a
       link-rt = rt-off g K ok m m′ (row g i) (st .cluster) (λ a h. l1-rt g m (row g i) (i / g .M) (i % g .M / g .E) a at-tree at-row h at-one refl)
@@ -504,116 +497,124 @@ module _ (g : Geo) (K : Codec) (ok : GeoOk g K) (m : ℕ → ℕ → ℕ) (s : S
       unfolding tab
       link-tab-new = ap (K .clus) link-l1-new ∙ ok .laws .mk-clus t tN
 
-      -- no table lies in the L1 table's cluster, nor does t
+      -- no table lies in the L1 table's cluster
       pub link-l2 : (a b : ℕ) → a < g .L → b < g .E → l2 g m′ (tab g K m a) b ≡ l2 g m (tab g K m a) b
       link-l2 a b p q = l2-off g K ok m m′ (row g i) (st .cluster) (tab g K m a) b q
           (λ e. fix-tab (g .L) (g .E) (fix g m) (tab g K m) (dat g K m) (row g i) a p at-not-0 at-alone at-fix (sym e))
 
-      pub link-l2-new : (b : ℕ) → b < g .E → l2 g m′ t b ≡ l2 g m t b
-      link-l2-new b q = l2-off g K ok m m′ (row g i) (st .cluster) t b q t-not-at
+      -- it had none, and nothing refers to t
+      module _ (j : ℕ) (k : j < g .E) (z : tab g K m i ≡ 0) (free : refsOf g K m t ≡ 0) where
+        t-not-0 : t ≢ 0
+        t-not-0 = free-not-0 t free
 
-      pub link-dat : (a b : ℕ) → a < g .L → b < g .E → a ≢ i → dat g K m a b ≡ dat g K m′ a b
-      link-dat a b p q d = go (ℕ-discrete (tab g K m a) 0)
-        where
-          go : Dec (tab g K m a ≡ 0) → dat g K m a b ≡ dat g K m′ a b
-          go (yes y) = dat-none g K m a b y ∙ sym (dat-none g K m′ a b (link-tab a p d ∙ y))
-          go (no n) =
-              dat-some g K m a b n ∙ ap (K .clus) (sym (ap (λ (y : ℕ). l2 g m′ y b) (link-tab a p d) ∙ link-l2 a b p q))
-              ∙ sym (dat-some g K m′ a b (λ y. n (sym (link-tab a p d) ∙ y)))
+        t-not-at : t ≢ row g i
+        t-not-at e = omega (arith, at-fix, refs-fix (g .L) (g .E) (fix g m) (tab g K m) (dat g K m) t, ap (fix g m) e)
 
-      pub link-dat-new : (b : ℕ) → b < g .E → dat g K m′ i b ≡ K .clus (l2 g m t b)
-      link-dat-new b q = dat-some g K m′ i b (λ y. t-not-0 (sym link-tab-new ∙ y)) ∙ ap (K .clus) (ap (λ (y : ℕ). l2 g m′ y b) link-tab-new ∙ link-l2-new b q)
+        pub link-l2-new : (b : ℕ) → b < g .E → l2 g m′ t b ≡ l2 g m t b
+        link-l2-new b q = l2-off g K ok m m′ (row g i) (st .cluster) t b q t-not-at
 
-      -- t holds one entry, for the cluster d
-      pub link-sound : (d : ℕ) → K .clus (l2 g m t j) ≡ d → K .own (l2 g m t j) ≡ 1 → t ≢ d → refsOf g K m d ≡ 0 → 1 ≤ cnt g m t → 1 ≤ cnt g m d
-          → ((b : ℕ) → b < g .E → K .good2 (l2 g m t b)) → ((b : ℕ) → b < g .E → b ≢ j → K .clus (l2 g m t b) ≡ 0) → Sound g K m′
-      link-sound d e ow td fd ct cd gs zs =
-          record {
-            bytes = small;
-            blkin = λ a h. rw (link-blk a h) (s .blkin a h);
-            goods1 = λ a h. one a h (ℕ-discrete a i);
-            goods2 = λ a b p q n. two a b p q n (ℕ-discrete a i);
-            inv = rw (fix-same g m m′ link-blk) (inv-same (g .N) (g .L) (g .E) (tree g) (fix g m) (tab g K m′) (tab g K m′) (dat g K m′) (dat g K m′) (cnt g m) (cnt g m′)
-                mid (λ a h. refl) (λ a b p q. refl) (λ c h. sym (link-cnt c h)));
-            mark1 = λ a h n y. first a h n y (ℕ-discrete a i);
-            mark2 = λ a b p n q y. second a b p n q y (ℕ-discrete a i) (ℕ-discrete b j);
-          }
-        where
-          d-not-0 : d ≢ 0
-          d-not-0 = free-not-0 d fd
+        pub link-dat : (a b : ℕ) → a < g .L → b < g .E → a ≢ i → dat g K m a b ≡ dat g K m′ a b
+        link-dat a b p q d = go (ℕ-discrete (tab g K m a) 0)
+          where
+            go : Dec (tab g K m a ≡ 0) → dat g K m a b ≡ dat g K m′ a b
+            go (yes y) = dat-none g K m a b y ∙ sym (dat-none g K m′ a b (link-tab a p d ∙ y))
+            go (no n) =
+                dat-some g K m a b n ∙ ap (K .clus) (sym (ap (λ (y : ℕ). l2 g m′ y b) (link-tab a p d) ∙ link-l2 a b p q))
+                ∙ sym (dat-some g K m′ a b (λ y. n (sym (link-tab a p d) ∙ y)))
 
-          nd : dat g K m′ i j ≡ d
-          nd = link-dat-new j k ∙ e
+        pub link-dat-new : (b : ℕ) → b < g .E → dat g K m′ i b ≡ K .clus (l2 g m t b)
+        link-dat-new b q = dat-some g K m′ i b (λ y. t-not-0 (sym link-tab-new ∙ y)) ∙ ap (K .clus) (ap (λ (y : ℕ). l2 g m′ y b) link-tab-new ∙ link-l2-new b q)
 
-          moved : (c : ℕ) → refsOf g K m′ c ≡ refsOf g K m c + hit c t + hit c d
-          moved c =
-              ap (λ (f : ℕ → ℕ). refs (g .L) (g .E) f (tab g K m′) (dat g K m′) c) (fix-same g m m′ link-blk)
-              ∙ refs-link (g .L) (g .E) (tab g K m) (tab g K m′) (dat g K m) (dat g K m′) i j l k z
-              (λ a h n. sym (link-tab a h n)) link-dat (λ b q. dat-none g K m i b z) (λ b q n. link-dat-new b q ∙ zs b q n) (fix g m) c
-              ∙ ap₂ (λ (x y : ℕ). refsOf g K m c + hit c x + hit c y) link-tab-new nd
+        -- t holds one entry, for the cluster d
+        pub link-sound : (d : ℕ) → K .clus (l2 g m t j) ≡ d → K .own (l2 g m t j) ≡ 1 → t ≢ d → refsOf g K m d ≡ 0 → 1 ≤ cnt g m t → 1 ≤ cnt g m d
+            → ((b : ℕ) → b < g .E → K .good2 (l2 g m t b)) → ((b : ℕ) → b < g .E → b ≢ j → K .clus (l2 g m t b) ≡ 0) → Sound g K m′
+        link-sound d e ow td fd ct cd gs zs =
+            record {
+              bytes = small;
+              blkin = λ a h. rw (link-blk a h) (s .blkin a h);
+              goods1 = λ a h. one a h (ℕ-discrete a i);
+              goods2 = λ a b p q n. two a b p q n (ℕ-discrete a i);
+              inv = rw (fix-same g m m′ link-blk) (inv-same (g .N) (g .L) (g .E) (tree g) (fix g m) (tab g K m′) (tab g K m′) (dat g K m′) (dat g K m′) (cnt g m) (cnt g m′)
+                  mid (λ a h. refl) (λ a b p q. refl) (λ c h. sym (link-cnt c h)));
+              mark1 = λ a h n y. first a h n y (ℕ-discrete a i);
+              mark2 = λ a b p n q y. second a b p n q y (ℕ-discrete a i) (ℕ-discrete b j);
+            }
+          where
+            d-not-0 : d ≢ 0
+            d-not-0 = free-not-0 d fd
 
-          others : (c : ℕ) → t ≢ c → d ≢ c → refsOf g K m′ c ≡ refsOf g K m c
-          others c p q = omega (arith, moved c, hit-other c t (λ y. p (sym y)), hit-other c d (λ y. q (sym y)))
+            nd : dat g K m′ i j ≡ d
+            nd = link-dat-new j k ∙ e
 
-          first : (a : ℕ) → a < g .L → a < g .M → tab g K m′ a ≢ 0 → Dec (a ≡ i) → Right (K .own (l1 g m′ a)) (refsOf g K m′ (tab g K m′ a))
-          first a h n y (yes f) =
-              rw (f, link-l1-new, link-tab-new)
-              ((λ w. omega (arith, moved t, free, hit-self t t-not-0, hit-other t d td)), (λ w. ok .laws .mk-own t tN))
-          first a h n y (no f) =
-              rw (
-                link-tab a h f,
-                link-l1 a h f,
-                others (tab g K m a)
-                    (free-tab (g .L) (g .E) (fix g m) (tab g K m) (dat g K m) t free t-not-0 a h) (free-tab (g .L) (g .E) (fix g m) (tab g K m) (dat g K m) d fd d-not-0 a h),
-              )
-              (s .mark1 a h n (λ w. y (link-tab a h f ∙ w)))
+            moved : (c : ℕ) → refsOf g K m′ c ≡ refsOf g K m c + hit c t + hit c d
+            moved c =
+                ap (λ (f : ℕ → ℕ). refs (g .L) (g .E) f (tab g K m′) (dat g K m′) c) (fix-same g m m′ link-blk)
+                ∙ refs-link (g .L) (g .E) (tab g K m) (tab g K m′) (dat g K m) (dat g K m′) i j l k z
+                (λ a h n. sym (link-tab a h n)) link-dat (λ b q. dat-none g K m i b z) (λ b q n. link-dat-new b q ∙ zs b q n) (fix g m) c
+                ∙ ap₂ (λ (x y : ℕ). refsOf g K m c + hit c x + hit c y) link-tab-new nd
 
-          second : (a b : ℕ) → a < g .L → a < g .M → b < g .E → dat g K m′ a b ≢ 0 → Dec (a ≡ i) → Dec (b ≡ j)
-              → Right (K .own (l2 g m′ (tab g K m′ a) b)) (refsOf g K m′ (dat g K m′ a b))
-          second a b p n q y (yes f) (yes u) =
-              rw (f, u, link-tab-new, link-l2-new j k, nd)
-              ((λ w. omega (arith, moved d, fd, hit-self d d-not-0, hit-other d t (λ x. td (sym x)))), (λ w. ow))
-          second a b p n q y (yes f) (no u) = absurd (y (ap (λ (x : ℕ). dat g K m′ x b) f ∙ link-dat-new b q ∙ zs b q u))
-          second a b p n q y (no f) u =
-              let h : dat g K m a b ≡ dat g K m′ a b = link-dat a b p q f in
-              rw (
-                link-tab a p f,
-                link-l2 a b p q,
-                ← h,
-                others (dat g K m a b)
-                    (free-dat (g .L) (g .E) (fix g m) (tab g K m) (dat g K m) t free t-not-0 a b p q) (free-dat (g .L) (g .E) (fix g m) (tab g K m) (dat g K m) d fd d-not-0 a b p q),
-              )
-              (s .mark2 a b p n q (λ w. y (sym h ∙ w)))
+            others : (c : ℕ) → t ≢ c → d ≢ c → refsOf g K m′ c ≡ refsOf g K m c
+            others c p q = omega (arith, moved c, hit-other c t (λ y. p (sym y)), hit-other c d (λ y. q (sym y)))
 
-          one : (a : ℕ) → a < g .L → Dec (a ≡ i) → K .good1 (l1 g m′ a)
-          one a h (yes f) = rw (f, link-l1-new) (ok .laws .mk-good1 t tN t-not-0)
-          one a h (no n) = rw (link-l1 a h n) (s .goods1 a h)
+            first : (a : ℕ) → a < g .L → a < g .M → tab g K m′ a ≢ 0 → Dec (a ≡ i) → Right (K .own (l1 g m′ a)) (refsOf g K m′ (tab g K m′ a))
+            first a h n y (yes f) =
+                rw (f, link-l1-new, link-tab-new)
+                ((λ w. omega (arith, moved t, free, hit-self t t-not-0, hit-other t d td)), (λ w. ok .laws .mk-own t tN))
+            first a h n y (no f) =
+                rw (
+                  link-tab a h f,
+                  link-l1 a h f,
+                  others (tab g K m a)
+                      (free-tab (g .L) (g .E) (fix g m) (tab g K m) (dat g K m) t free t-not-0 a h) (free-tab (g .L) (g .E) (fix g m) (tab g K m) (dat g K m) d fd d-not-0 a h),
+                )
+                (s .mark1 a h n (λ w. y (link-tab a h f ∙ w)))
 
-          two : (a b : ℕ) → a < g .L → b < g .E → tab g K m′ a ≢ 0 → Dec (a ≡ i) → K .good2 (l2 g m′ (tab g K m′ a) b)
-          two a b p q n (yes f) = rw (f, link-tab-new, link-l2-new b q) (gs b q)
-          two a b p q n (no y) = rw (link-tab a p y, link-l2 a b p q) (s .goods2 a b p q (λ u. n (link-tab a p y ∙ u)))
+            second : (a b : ℕ) → a < g .L → a < g .M → b < g .E → dat g K m′ a b ≢ 0 → Dec (a ≡ i) → Dec (b ≡ j)
+                → Right (K .own (l2 g m′ (tab g K m′ a) b)) (refsOf g K m′ (dat g K m′ a b))
+            second a b p n q y (yes f) (yes u) =
+                rw (f, u, link-tab-new, link-l2-new j k, nd)
+                ((λ w. omega (arith, moved d, fd, hit-self d d-not-0, hit-other d t (λ x. td (sym x)))), (λ w. ow))
+            second a b p n q y (yes f) (no u) = absurd (y (ap (λ (x : ℕ). dat g K m′ x b) f ∙ link-dat-new b q ∙ zs b q u))
+            second a b p n q y (no f) u =
+                let h : dat g K m a b ≡ dat g K m′ a b = link-dat a b p q f in
+                rw (
+                  link-tab a p f,
+                  link-l2 a b p q,
+                  ← h,
+                  others (dat g K m a b)
+                      (free-dat (g .L) (g .E) (fix g m) (tab g K m) (dat g K m) t free t-not-0 a b p q) (free-dat (g .L) (g .E) (fix g m) (tab g K m) (dat g K m) d fd d-not-0 a b p q),
+                )
+                (s .mark2 a b p n q (λ w. y (sym h ∙ w)))
 
-          mid : Inv (g .N) (g .L) (g .E) (tree g) (fix g m) (tab g K m′) (dat g K m′) (cnt g m)
-          mid = inv-link (g .N) (g .L) (g .E) (tree g) (fix g m) (tab g K m) (tab g K m′) (dat g K m) (dat g K m′) (cnt g m) i j (s .inv) l k z
-              (λ a h n. sym (link-tab a h n)) link-dat (λ b q. dat-none g K m i b z) (λ b q n. link-dat-new b q ∙ zs b q n)
-              (λ f. td (sym link-tab-new ∙ f ∙ link-dat-new j k ∙ e))
-              (rw link-tab-new (free, ct)) (rw (link-dat-new j k, e) (fd, cd))
+            one : (a : ℕ) → a < g .L → Dec (a ≡ i) → K .good1 (l1 g m′ a)
+            one a h (yes f) = rw (f, link-l1-new) (ok .laws .mk-good1 t tN t-not-0)
+            one a h (no n) = rw (link-l1 a h n) (s .goods1 a h)
 
-      pub link-reads : (a b x : ℕ) → a < g .L → b < g .E → x < g .C → a ≢ i → gread g K m′ a b x ≡ gread g K m a b x
-      link-reads a b x p q h d = gread-same g K ok m m′ a b x (link-tab a p d) (λ n. link-l2 a b p q)
-          (λ n. st .cluster (dat g K m a b) x h
-          (λ e. fix-dat (g .L) (g .E) (fix g m) (tab g K m) (dat g K m) (row g i) a b p q at-not-0 at-alone at-fix (sym e)))
+            two : (a b : ℕ) → a < g .L → b < g .E → tab g K m′ a ≢ 0 → Dec (a ≡ i) → K .good2 (l2 g m′ (tab g K m′ a) b)
+            two a b p q n (yes f) = rw (f, link-tab-new, link-l2-new b q) (gs b q)
+            two a b p q n (no y) = rw (link-tab a p y, link-l2 a b p q) (s .goods2 a b p q (λ u. n (link-tab a p y ∙ u)))
 
-      link-mark-new : (b : ℕ) → b < g .E → mark g K m′ i b ≡ K .flag (l2 g m t b)
-      link-mark-new b q =
-          mark-some g K m′ i b (λ y. t-not-0 (sym link-tab-new ∙ y)) ∙ ap (λ (y : ℕ). K .flag (l2 g m′ y b)) link-tab-new ∙ ap (K .flag) (link-l2-new b q)
+            mid : Inv (g .N) (g .L) (g .E) (tree g) (fix g m) (tab g K m′) (dat g K m′) (cnt g m)
+            mid = inv-link (g .N) (g .L) (g .E) (tree g) (fix g m) (tab g K m) (tab g K m′) (dat g K m) (dat g K m′) (cnt g m) i j (s .inv) l k z
+                (λ a h n. sym (link-tab a h n)) link-dat (λ b q. dat-none g K m i b z) (λ b q n. link-dat-new b q ∙ zs b q n)
+                (λ f. td (sym link-tab-new ∙ f ∙ link-dat-new j k ∙ e))
+                (rw link-tab-new (free, ct)) (rw (link-dat-new j k, e) (fd, cd))
 
-      -- through the new table the guest reads what lies underneath, but through entry j
-      pub link-zeros : (b x : ℕ) → b < g .E → l2 g m t b ≡ 0 → gread g K m′ i b x ≡ (λ u. u)
-      link-zeros b x q e =
-          gread-none g K m′ i b x (link-dat-new b q ∙ ap (K .clus) e ∙ ok .laws .zero-clus) (link-mark-new b q ∙ ap (K .flag) e ∙ ok .laws .zero-flag)
+        pub link-reads : (a b x : ℕ) → a < g .L → b < g .E → x < g .C → a ≢ i → gread g K m′ a b x ≡ gread g K m a b x
+        link-reads a b x p q h d = gread-same g K ok m m′ a b x (link-tab a p d) (λ n. link-l2 a b p q)
+            (λ n. st .cluster (dat g K m a b) x h
+            (λ e. fix-dat (g .L) (g .E) (fix g m) (tab g K m) (dat g K m) (row g i) a b p q at-not-0 at-alone at-fix (sym e)))
 
-      pub link-read : (x : ℕ) → x < g .C → K .clus (l2 g m t j) ≢ row g i
-          → gread g K m′ i j x ≡ shown (K .clus (l2 g m t j)) (K .flag (l2 g m t j)) (m (K .clus (l2 g m t j)) x)
-      unfolding gread
-      link-read x h d = rw (link-dat-new j k, link-mark-new j k, st .cluster (K .clus (l2 g m t j)) x h d)
+        link-mark-new : (b : ℕ) → b < g .E → mark g K m′ i b ≡ K .flag (l2 g m t b)
+        link-mark-new b q =
+            mark-some g K m′ i b (λ y. t-not-0 (sym link-tab-new ∙ y)) ∙ ap (λ (y : ℕ). K .flag (l2 g m′ y b)) link-tab-new ∙ ap (K .flag) (link-l2-new b q)
+
+        -- through the new table the guest reads what lies underneath, but through entry j
+        pub link-zeros : (b x : ℕ) → b < g .E → l2 g m t b ≡ 0 → gread g K m′ i b x ≡ (λ u. u)
+        link-zeros b x q e =
+            gread-none g K m′ i b x (link-dat-new b q ∙ ap (K .clus) e ∙ ok .laws .zero-clus) (link-mark-new b q ∙ ap (K .flag) e ∙ ok .laws .zero-flag)
+
+        pub link-read : (x : ℕ) → x < g .C → K .clus (l2 g m t j) ≢ row g i
+            → gread g K m′ i j x ≡ shown (K .clus (l2 g m t j)) (K .flag (l2 g m t j)) (m (K .clus (l2 g m t j)) x)
+        unfolding gread
+        link-read x h d = rw (link-dat-new j k, link-mark-new j k, st .cluster (K .clus (l2 g m t j)) x h d)

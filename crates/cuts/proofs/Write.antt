@@ -29,7 +29,7 @@ unfolding around
 length-around C o bs h =
     simp (length-append, length-replicate) (omega arith)
 
-zeros-at : (n x : ℕ) → _≡_ {A = ℕ} (getD (replicate n 0) x 0) 0
+pub zeros-at : (n x : ℕ) → _≡_ {A = ℕ} (getD (replicate n 0) x 0) 0
 zeros-at zero x = refl
 zeros-at (suc n) zero = refl
 zeros-at (suc n) (suc x) = zeros-at n x
@@ -84,7 +84,7 @@ unfolding num
 num-zeros zero f o h = refl
 num-zeros (suc k) f o h = omega (arith, num-zeros k f o (λ x a b. h x a (omega arith)), h (o + k) (omega arith) (omega arith))
 
-small-one : {v : ℕ} → v < 256 → Small (v ∷ [])
+pub small-one : {v : ℕ} → v < 256 → Small (v ∷ [])
 small-one p zero = p
 small-one p (suc x) = zero-lt-suc 255
 
@@ -435,8 +435,8 @@ module _ (g : Geo) (K : Codec) (ok : GeoOk g K) (m0 : ℕ → ℕ → ℕ) where
     unfolding SameGuest apply linkStore
     link-commit hi t c tN cN tc zt zc z s r = (
       ok-next g K ok m0 s w p (enc 8 (K .mk t)) (r .still .fine) w0
-          (λ q b. link-away g K ok ms ss m′ sm′ i j t l hi n z′ tN ft st (g .T) q (omega arith) b (λ e. omega (arith, tree-in g K ok i l, e))) (small-enc 8 (K .mk t)) st (link-rt g K ok ms ss m′ sm′ i j t l hi n z′ tN ft st)
-          (link-sound g K ok ms ss m′ sm′ i j t l hi n z′ tN ft st c (ap (K .clus) (r .entry) ∙ mc) (ap (K .own) (r .entry) ∙ ok .laws .mk-own c cN) tc fc (omega (arith, r .count-t)) (omega (arith, r .count-c))
+          (λ q b. link-away g K ok ms ss m′ sm′ i t l hi tN st (g .T) q (omega arith) b (λ e. omega (arith, tree-in g K ok i l, e))) (small-enc 8 (K .mk t)) st (link-rt g K ok ms ss m′ sm′ i t l hi tN st)
+          (link-sound g K ok ms ss m′ sm′ i t l hi tN st j n z′ ft c (ap (K .clus) (r .entry) ∙ mc) (ap (K .own) (r .entry) ∙ ok .laws .mk-own c cN) tc fc (omega (arith, r .count-t)) (omega (arith, r .count-c))
           (λ b q. goods b q (ℕ-discrete b j)) (λ b q d. ap (K .clus) (r .none b q d) ∙ ok .laws .zero-clus)),
       record {
         other = λ a b x e q h d. see a b x e q h d (ℕ-discrete a i);
@@ -504,16 +504,16 @@ module _ (g : Geo) (K : Codec) (ok : GeoOk g K) (m0 : ℕ → ℕ → ℕ) where
         goods b q (no d) = rw (r .none b q d) (ok .laws .zero-good2)
 
         see : (a b x : ℕ) → a < g .L → b < g .E → x < g .C → (a ≢ i) ⊎ (b ≢ j) → Dec (a ≡ i) → gread g K m′ a b x ≡ gread g K m a b x
-        see a b x e q h d (no u) = link-reads g K ok ms ss m′ sm′ i j t l hi n z′ tN ft st a b x e q h u ∙ r .still .reads a b x e q h
+        see a b x e q h d (no u) = link-reads g K ok ms ss m′ sm′ i t l hi tN st j n z′ ft a b x e q h u ∙ r .still .reads a b x e q h
         see a b x e q h (inl d) (yes u) = absurd (d u)
         see a b x e q h (inr d) (yes u) =
-            rw u (link-zeros g K ok ms ss m′ sm′ i j t l hi n z′ tN ft st b x q (r .none b q d) ∙ sym (gread-absent g K m i b x z))
+            rw u (link-zeros g K ok ms ss m′ sm′ i t l hi tN st j n z′ ft b x q (r .none b q d) ∙ sym (gread-absent g K m i b x z))
 
         cw : K .clus (l2 g ms t j) ≢ w
         cw e = omega (arith, fix-l1 g ms w (i / g .M) (i % g .M / g .E) tI iE refl, refs-fix (g .L) (g .E) (fix g ms) (tab g K ms) (dat g K ms) c, fc, ap (fix g ms) (sym mc ∙ ap (K .clus) (sym (r .entry)) ∙ e))
 
         lit : (x : ℕ) → x < g .C → gread g K m′ i j x (u x) ≡ getD A x 0
-        lit x q = ap (λ (f : ℕ → ℕ). f (u x)) (link-read g K ok ms ss m′ sm′ i j t l hi n z′ tN ft st x q cw) ∙ rw (r .entry, mc, ok .laws .mk-flag c cN) (shown-some c (ms c x) (u x) c0) ∙ r .body x q
+        lit x q = ap (λ (f : ℕ → ℕ). f (u x)) (link-read g K ok ms ss m′ sm′ i t l hi tN st j n z′ ft x q cw) ∙ rw (r .entry, mc, ok .laws .mk-flag c cN) (shown-some c (ms c x) (u x) c0) ∙ r .body x q
 
     module _ (t c : ℕ) (tN : t < g .N) (cN : c < g .N) (tc : t ≢ c) (zt : cnt g (mem (g .C) img) t ≡ 0) (zc : cnt g (mem (g .C) img) c ≡ 0) where
       free-t : refsOf g K (mem (g .C) img) t ≡ 0

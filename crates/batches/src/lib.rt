@@ -1,0 +1,1 @@
+// The laws of calls that are stored in batches are in proofs/: no code is here.
