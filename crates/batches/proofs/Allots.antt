@@ -74,7 +74,7 @@ module _ (g : Geo) (K : Codec) (ok : GeoOk g K) (m0 : ℕ → ℕ → ℕ) (img 
     allot-body o h = stored₂ .inside o h
 
     pub allot-step : Step g K ok m0 img k0 role taken dead dead ((countStore g m c 1 ∷ []) ++ fill c 0 A) ([] ++ []) ([] ++ []) s s₂
-    allot-step = compose g K ok m0 img k0 role taken taken dead dead dead (countStore g m c 1 ∷ []) [] [] (fill c 0 A) [] [] s s₁ s₂ step₁ step₂
+    allot-step = compose g K ok m0 img k0 role taken taken dead dead dead (countStore g m c 1 ∷ []) [] [] (fill c 0 A) [] [] s s₁ s₂ (p .fine .len) step₁ step₂
 
     pub allot-plan : Planned g K ok m0 img k0 taken dead (r ++ ((countStore g m c 1 ∷ []) ++ fill c 0 A)) (l ++ ([] ++ [])) (f ++ ([] ++ [])) s₂
     allot-plan = extend g K ok m0 img k0 role taken dead dead r l f _ _ _ s s₂ p allot-step

@@ -103,7 +103,9 @@ module _ (g : Geo) (K : Codec) (ok : GeoOk g K) (m0 : ℕ → ℕ → ℕ) (img 
           falling = none;
           free = λ c h d. absurd (d refl);
           raise = λ c h d. absurd (d refl);
+          bare = λ c h d. absurd (d refl);
           tables = λ t i h e. absurd (used-table i (sym e));
+          order = λ c h. refl;
           counted = λ c h. inr (inr (refl, refl));
         };
         settled = λ t i h e. absurd (used-table i (sym e));

@@ -69,7 +69,7 @@ module _ (g : Geo) (K : Codec) (ok : GeoOk g K) (m0 : ℕ → ℕ → ℕ) (img 
           s (apply (g .C) (countStore g m c (cnt g x c - 1)) s₁)
       discard-call y =
           compose g K ok m0 img k0 role role role dead dead (λ a. dead a ⊎ (a ≡ c)) (before y (entryStore g (tab g K x i) j e₀)) (among y (entryStore g (tab g K x i) j e₀)) [] [] [] (countStore g m c (cnt g x c - 1) ∷ []) s s₁
-          (apply (g .C) (countStore g m c (cnt g x c - 1)) s₁) (unmark-call y)
+          (apply (g .C) (countStore g m c (cnt g x c - 1)) s₁) (p .fine .len) (unmark-call y)
           (fall-step g K ok m0 img k0 role dead (r ++ before y (entryStore g (tab g K x i) j e₀)) (l ++ among y (entryStore g (tab g K x i) j e₀)) (f ++ []) s₁
           (extend g K ok m0 img k0 role role dead dead r l f (before y (entryStore g (tab g K x i) j e₀)) (among y (entryStore g (tab g K x i) j e₀)) [] s s₁ p (unmark-call y))
           c (cnt g x c - 1) cN (omega (arith, cnt-small g K ok m0 x c))

@@ -12,7 +12,8 @@ use Rattle.cuts.proofs.Call.{Ok}
 use Rattle.batches.proofs.Mixture.{Use, unused, table, datum, used-table, used-datum, Linked, Place, Put, Old, Mixture}
 use Rattle.batches.proofs.Prepared.{Ready, Raises, here, later}
 use Rattle.batches.proofs.Joined.{Linking, enters, links}
-use Rattle.batches.proofs.Lists.{each-map, Merge, empty, left, right}
+use Rattle.batches.proofs.Lists.{Whole, all-whole, each-map, Merge, empty, left, right}
+use Rattle.batches.proofs.Order.{cellAt, Cell, Touch, sets, passes, Effect, stays, becomes, effect}
 use Rattle.batches.proofs.Planned.{Tabled, Lowers, lowers, Planned, Settled}
 
 pub merge-append : {a b c a′ b′ c′ : List Store} → Merge a b c → Merge a′ b′ c′ → Merge (a ++ a′) (b ++ b′) (c ++ c′)
@@ -82,6 +83,38 @@ module _ (g : Geo) (K : Codec) (ok : GeoOk g K) (m0 : ℕ → ℕ → ℕ) (img 
   raises-right c [] h = h
   raises-right c (u ∷ a) h = later (raises-right c a h)
 
+  pub lowers-touch : (dead : ℕ → Type 0) (s : List ℕ) (u : Store) → Lowers g K ok m0 img k0 dead s u → Touch g K ok m0 img k0 dead u
+  lowers-touch dead s u (lowers c v h lv d n) = sets c v h lv d
+
+  touch-less : {P Q : ℕ → Type 0} → ((c : ℕ) → P c → Q c) → (u : Store) → Touch g K ok m0 img k0 P u → Touch g K ok m0 img k0 Q u
+  touch-less h u (sets c v l lv p) = sets c v l lv (h c p)
+  touch-less h u (passes w f a) = passes w f a
+
+  -- counts that rise later change places with those that have fallen
+  turned : (dead dead′ : ℕ → Type 0) (r′ f f′ : List Store) (a s s′ : List ℕ) (c : ℕ) → Cell g K ok m0 img k0 c → Whole (g .C) (g .N) a → Whole (g .C) (g .N) s
+      → Each (Touch g K ok m0 img k0 (λ n. dead n → ⊥)) r′ → Each (Touch g K ok m0 img k0 dead) f → Each (Touch g K ok m0 img k0 dead′) f′
+      → cellAt g K ok m0 img k0 (applyAll (g .C) f a) c ≡ cellAt g K ok m0 img k0 s c
+      → cellAt g K ok m0 img k0 (applyAll (g .C) f′ (applyAll (g .C) r′ s)) c ≡ cellAt g K ok m0 img k0 s′ c
+      → cellAt g K ok m0 img k0 (applyAll (g .C) f′ (applyAll (g .C) f (applyAll (g .C) r′ a))) c ≡ cellAt g K ok m0 img k0 s′ c
+  turned dead dead′ r′ f f′ a s s′ c l wa ws tr tf tf′ e e′ = last (effect g K ok m0 img k0 dead′ tf′ c l) (effect g K ok m0 img k0 (λ n. dead n → ⊥) tr c l) (effect g K ok m0 img k0 dead tf c l)
+    where
+      wr : Whole (g .C) (g .N) (applyAll (g .C) r′ a)
+      wr = all-whole (g .C) (g .N) r′ a wa
+
+      ws′ : Whole (g .C) (g .N) (applyAll (g .C) r′ s)
+      ws′ = all-whole (g .C) (g .N) r′ s ws
+
+      before : Effect g K ok m0 img k0 (λ n. dead n → ⊥) r′ c → Effect g K ok m0 img k0 dead f c → cellAt g K ok m0 img k0 (applyAll (g .C) f (applyAll (g .C) r′ a)) c ≡ cellAt g K ok m0 img k0 (applyAll (g .C) r′ s) c
+      before (becomes v h d) (becomes w k p) = absurd (d p)
+      before (becomes v h d) (stays k) = k _ wr ∙ h a wa ∙ sym (h s ws)
+      before (stays h) (becomes w k p) = k _ wr ∙ sym (k a wa) ∙ e ∙ sym (h s ws)
+      before (stays h) (stays k) = k _ wr ∙ h a wa ∙ sym (k a wa) ∙ e ∙ sym (h s ws)
+
+      last : Effect g K ok m0 img k0 dead′ f′ c → Effect g K ok m0 img k0 (λ n. dead n → ⊥) r′ c → Effect g K ok m0 img k0 dead f c
+          → cellAt g K ok m0 img k0 (applyAll (g .C) f′ (applyAll (g .C) f (applyAll (g .C) r′ a))) c ≡ cellAt g K ok m0 img k0 s′ c
+      last (becomes v h p) x y = h _ (all-whole (g .C) (g .N) f _ wr) ∙ sym (h _ ws′) ∙ e′
+      last (stays h) x y = h _ (all-whole (g .C) (g .N) f _ wr) ∙ before x y ∙ sym (h _ ws′) ∙ e′
+
   -- what one more call adds, and what it leaves in memory
   pub record Step (role role′ : ℕ → Use) (dead dead′ : ℕ → Type 0) (r l f : List Store) (s s′ : List ℕ) : Type 0 where
     pub grows : Grows role role′
@@ -97,9 +130,12 @@ module _ (g : Geo) (K : Codec) (ok : GeoOk g K) (m0 : ℕ → ℕ → ℕ) (img 
     pub linking : Each (Linking g K ok m0 img k0 role′) l
     pub falling : Each (Lowers g K ok m0 img k0 dead′ s′) f
     pub fewer : (c : ℕ) → c < g .N → dead c → refsOf g K (mem (g .C) s′) c ≤ refsOf g K (mem (g .C) s) c
-    pub taken : (c : ℕ) → c < g .N → role c ≡ unused → role′ c ≢ unused → (refsOf g K m c ≡ 0) × Raises g K ok m0 img c r
+    pub taken : (c : ℕ) → c < g .N → role c ≡ unused → role′ c ≢ unused → (refsOf g K m c ≡ 0) × Raises g K ok m0 img c r × (cnt g m c ≡ 0)
     pub tables : (t i : ℕ) → t < g .N → role′ t ≡ table i → Tabled g K s′ t i
     pub stays : (a : ℕ) → a < g .L → tab g K (mem (g .C) s) a ≢ 0 → tab g K (mem (g .C) s′) a ≡ tab g K (mem (g .C) s) a
+    -- counts rise where none has fallen; and stored before those that fall, they leave what the call leaves
+    pub touch : Each (Touch g K ok m0 img k0 (λ c. dead c → ⊥)) r
+    pub order : (c : ℕ) → Cell g K ok m0 img k0 c → cellAt g K ok m0 img k0 (applyAll (g .C) f (applyAll (g .C) r s)) c ≡ cellAt g K ok m0 img k0 s′ c
     pub counted : (c : ℕ) → c < g .N → dead′ c ⊎ (((role′ c ≢ unused) × (1 ≤ cnt g (mem (g .C) s′) c)) ⊎ ((role′ c ≡ unused) × (cnt g (mem (g .C) s′) c ≡ cnt g m c)))
 
   module _ (role role′ : ℕ → Use) (dead dead′ : ℕ → Type 0) (r l f r′ l′ f′ : List Store) (s s′ : List ℕ)
@@ -127,7 +163,10 @@ module _ (g : Geo) (K : Codec) (ok : GeoOk g K) (m0 : ℕ → ℕ → ℕ) (img 
           falling = each-append (each-map still-lowers (p .falling)) (q .falling);
           free = λ c h d. frees c h d (was c (role c) refl);
           raise = λ c h d. raises c h d (was c (role c) refl);
+          bare = λ c h d. bares c h d (was c (role c) refl);
           tables = q .tables;
+          order = λ c h. rw (apply-append (g .C) r r′ img, apply-append (g .C) f f′ (applyAll (g .C) r′ (applyAll (g .C) r img)))
+              (turned dead dead′ r′ f f′ (applyAll (g .C) r img) s s′ c h (all-whole (g .C) (g .N) r img (k0 .len)) (p .fine .len) (q .touch) (each-map (lowers-touch dead s) (p .falling)) (each-map (lowers-touch dead′ s′) (q .falling)) (p .order c h) (q .order c h));
           counted = q .counted;
         }
       where
@@ -135,13 +174,17 @@ module _ (g : Geo) (K : Codec) (ok : GeoOk g K) (m0 : ℕ → ℕ → ℕ) (img 
         frees c h d (inl e) = q .taken c h e d .0
         frees c h d (inr e) = p .free c h e
 
+        bares : (c : ℕ) → c < g .N → role′ c ≢ unused → (role c ≡ unused) ⊎ (role c ≢ unused) → cnt g m c ≡ 0
+        bares c h d (inl e) = q .taken c h e d .2
+        bares c h d (inr e) = p .bare c h e
+
         raises : (c : ℕ) → c < g .N → role′ c ≢ unused → (role c ≡ unused) ⊎ (role c ≢ unused) → Raises g K ok m0 img c (r ++ r′)
         raises c h d (inl e) = raises-right c r (q .taken c h e d .1)
         raises c h d (inr e) = raises-left c r′ (p .raise c h e)
 
   -- ---- one after the other
   module _ (role role′ role″ : ℕ → Use) (dead dead′ dead″ : ℕ → Type 0) (r l f r′ l′ f′ : List Store) (s s′ s″ : List ℕ)
-      (p : Step role role′ dead dead′ r l f s s′) (q : Step role′ role″ dead′ dead″ r′ l′ f′ s′ s″) where
+      (whole-s : Whole (g .C) (g .N) s) (p : Step role role′ dead dead′ r l f s s′) (q : Step role′ role″ dead′ dead″ r′ l′ f′ s′ s″) where
     more : Grows role role″
     more c d = q .grows c (λ z. d (sym (p .grows c d) ∙ z)) ∙ p .grows c d
 
@@ -171,13 +214,16 @@ module _ (g : Geo) (K : Codec) (ok : GeoOk g K) (m0 : ℕ → ℕ → ℕ) (img 
           fewer = λ c h d. omega (arith, q .fewer c h (p .dying c d), p .fewer c h d);
           taken = λ c h e d. took c h e d (had c (role′ c) refl);
           tables = q .tables;
+          touch = each-append (p .touch) (each-map (touch-less (λ c d z. d (p .dying c z))) (q .touch));
+          order = λ c h. rw (apply-append (g .C) r r′ s, apply-append (g .C) f f′ (applyAll (g .C) r′ (applyAll (g .C) r s)))
+              (turned dead′ dead″ r′ f f′ (applyAll (g .C) r s) s′ s″ c h (all-whole (g .C) (g .N) r s whole-s) (p .fine .len) (q .touch) (each-map (lowers-touch dead′ s′) (p .falling)) (each-map (lowers-touch dead″ s″) (q .falling)) (p .order c h) (q .order c h));
           stays = λ a h d. let e : tab g K (mem (g .C) s′) a ≡ tab g K (mem (g .C) s) a = p .stays a h d in q .stays a h (λ y. d (sym e ∙ y)) ∙ e;
           counted = q .counted;
         }
       where
-        took : (c : ℕ) → c < g .N → role c ≡ unused → role″ c ≢ unused → (role′ c ≡ unused) ⊎ (role′ c ≢ unused) → (refsOf g K m c ≡ 0) × Raises g K ok m0 img c (r ++ r′)
-        took c h e d (inl z) = (q .taken c h z d .0, raises-right c r (q .taken c h z d .1))
-        took c h e d (inr z) = (p .taken c h e z .0, raises-left c r′ (p .taken c h e z .1))
+        took : (c : ℕ) → c < g .N → role c ≡ unused → role″ c ≢ unused → (role′ c ≡ unused) ⊎ (role′ c ≢ unused) → (refsOf g K m c ≡ 0) × Raises g K ok m0 img c (r ++ r′) × (cnt g m c ≡ 0)
+        took c h e d (inl z) = (q .taken c h z d .0, raises-right c r (q .taken c h z d .1), q .taken c h z d .2)
+        took c h e d (inr z) = (p .taken c h e z .0, raises-left c r′ (p .taken c h e z .1), p .taken c h e z .2)
 
   -- where no call is under way before it, none is after it
   pub settle : (role role′ : ℕ → Use) (dead dead′ : ℕ → Type 0) (r l f r′ l′ f′ : List Store) (s s′ : List ℕ) → Planned g K ok m0 img k0 role dead r l f s

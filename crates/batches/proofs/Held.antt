@@ -12,8 +12,9 @@ use Rattle.cuts.proofs.Call.{Ok}
 use Rattle.batches.proofs.Mixture.{Use}
 use Rattle.batches.proofs.Planned.{middleImage, lateImage, cut-before, cut-among, cut-after}
 use Rattle.batches.proofs.Batch.{Batch}
-use Rattle.batches.proofs.Shown.{Reads, reads-among}
+use Rattle.batches.proofs.Shown.{reads-among}
 use Rattle.batches.proofs.After.{reads-after}
+use Rattle.batches.proofs.Stored.{whole-stored}
 
 module _ (g : Geo) (K : Codec) (ok : GeoOk g K) (m0 : ℕ → ℕ → ℕ) (img : List ℕ) (k0 : Ok g K m0 img) (past : (ℕ → ℕ → ℕ) → Type 0) (role : ℕ → Use) (dead : ℕ → Type 0)
     (r l f : List Store) (s : List ℕ) (b : Batch g K ok m0 img k0 past role dead r l f s) where
@@ -40,6 +41,10 @@ module _ (g : Geo) (K : Codec) (ok : GeoOk g K) (m0 : ℕ → ℕ → ℕ) (img 
 
   pub held-after : (cs : List Bool) → Ok g K m0 (applyAll (g .C) (picked cs f) late)
   held-after cs = cut-after g K ok m0 img k0 role dead r l f s (b .planned) (b .settled) cs .fine
+
+  -- all of it stored: the image in memory
+  pub held-whole : applyAll (g .C) f late ≡ s
+  held-whole = whole-stored g K ok m0 img k0 role dead r l f s (b .planned) (b .settled)
 
   pub shown-after : (cs : List Bool) (i j o : ℕ) → i < g .L → j < g .E → o < g .C → gread g K (mem (g .C) (applyAll (g .C) (picked cs f) late)) i j o ≡ gread g K (mem (g .C) s) i j o
   shown-after = reads-after g K ok m0 img k0 role dead r l f s (b .planned) (b .settled)

@@ -4,6 +4,8 @@ pub mod Stores
 pub mod Joined
 pub mod Lists
 pub mod Units
+pub mod Cells
+pub mod Order
 pub mod Phases
 pub mod Planned
 pub mod Extend
@@ -29,4 +31,5 @@ pub mod Alloc
 pub mod Unmark
 pub mod NewTable
 pub mod Mend
+pub mod Stored
 pub mod Held

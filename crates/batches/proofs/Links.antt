@@ -11,8 +11,8 @@ use lib.Seq.{sets}
 use Rattle.cuts.proofs.Sum.{sumTo, sum-le}
 use Rattle.cuts.proofs.Refs.{hit, hit-other, not-hit, tabs, dats, refs-is, refs-fix}
 use Rattle.cuts.proofs.Cell.{enc, length-enc, small-enc, Small, Stored, mem}
-use Rattle.cuts.proofs.Meta.{Geo, GeoOk, Codec, cnt, row, col, Has, l2, fix, tab, dat, refsOf, Keep, dat-none, dat-some, l2-off, fix-l1, tree-in, row-in, row-N}
-use Rattle.cuts.proofs.Step.{fix-same, link-blk, link-cnt, link-tab, link-tab-new, link-l2, Quiet}
+use Rattle.cuts.proofs.Meta.{Geo, GeoOk, Codec, blk, blk-l1, cnt, row, col, Has, l2, fix, tab, dat, refsOf, Keep, dat-none, dat-some, l2-off, fix-l1, tree-in, row-in, row-N}
+use Rattle.cuts.proofs.Step.{fix-one, fix-same, link-blk, link-cnt, link-tab, link-tab-new, link-l2, Quiet}
 use Rattle.cuts.proofs.Run.{Store, apply, applyAll, fill, apply-fill, Each, none, also}
 use Rattle.cuts.proofs.Write.{small-one}
 use Rattle.cuts.proofs.Call.{Ok, entryStore, linkStore, next-small, next-stored, next-free}
@@ -21,6 +21,7 @@ use Rattle.batches.proofs.Prepared.{Ready, spare}
 use Rattle.batches.proofs.Joined.{links}
 use Rattle.batches.proofs.Stores.{link-mixture}
 use Rattle.batches.proofs.Planned.{Tabled, Planned}
+use Rattle.batches.proofs.Order.{passes, aside-cell, fill-touch, free-aside}
 use Rattle.batches.proofs.Extend.{Step, merge-all-left, merge-all-right}
 use Rattle.batches.proofs.Places.{quiet-step}
 
@@ -66,7 +67,8 @@ module _ (g : Geo) (K : Codec) (ok : GeoOk g K) (m0 : ℕ → ℕ → ℕ) (img 
     pub fill-step : Step g K ok m0 img k0 role role dead dead (fill w o bs) [] [] s (applyAll (g .C) (fill w o bs) s)
     fill-step =
         let e : applyAll (g .C) (fill w o bs) s ≡ sets s (w * g .C + o) bs = apply-fill (g .C) w o bs s in
-        quiet-step g K ok m0 img k0 role dead r l f s p (fill w o bs) _ (spare-fill w o bs h n sm z) refl (rw e (q .0)) (rw e (q .1 .keep)) (rw e (q .1 .cnts))
+        quiet-step g K ok m0 img k0 role dead r l f s p (fill w o bs) _ (spare-fill w o bs h n sm z)
+        (fill-touch g K ok m0 img k0 (λ c. dead c → ⊥) w o bs h n (free-aside g K ok m0 img k0 w z)) refl (rw e (q .0)) (rw e (q .1 .keep)) (rw e (q .1 .cnts))
 
   pub inner-keep : (t j v : ℕ) → t < g .N → j < g .E → refsOf g K m t ≡ 0 → refsOf g K x t ≡ 0 → Keep g K x (mem (g .C) (apply (g .C) (entryStore g t j v) s))
   unfolding apply entryStore
@@ -84,7 +86,8 @@ module _ (g : Geo) (K : Codec) (ok : GeoOk g K) (m0 : ℕ → ℕ → ℕ) (img 
       let q : Ok g K m0 (sets s (t * g .C + 8 * j) (enc 8 v)) × Quiet g K x (mem (g .C) (sets s (t * g .C + 8 * j) (enc 8 v))) =
       next-free g K ok m0 s (p .fine) t (8 * j) (enc 8 v) h (omega (arith, ok .c8, length-enc 8 v)) (small-enc 8 v) free in
       quiet-step g K ok m0 img k0 role dead r l f s p (entryStore g t j v ∷ []) _
-      (also (spare t (8 * j) (enc 8 v) h (omega (arith, ok .c8, length-enc 8 v)) (small-enc 8 v) z) none) refl (q .0) (q .1 .keep) (q .1 .cnts)
+      (also (spare t (8 * j) (enc 8 v) h (omega (arith, ok .c8, length-enc 8 v)) (small-enc 8 v) z) none)
+      (also (passes (record { w = t; o = 8 * j; bs = λ k. enc 8 v }) (record { inN = h; inC = λ k. omega (arith, ok .c8, length-enc 8 v); local = λ k k′ e. refl }) (free-aside g K ok m0 img k0 t z)) none) refl (q .0) (q .1 .keep) (q .1 .cnts)
 
   -- ---- a new table is linked
   module _ (i t : ℕ) (iL : i < g .L) (hi : Has g i) (act : i < g .M) (tN : t < g .N) (t0 : t ≢ 0) (z : tab g K x i ≡ 0) (old : tab g K m i ≡ 0) (free : refsOf g K m t ≡ 0)
@@ -147,6 +150,10 @@ module _ (g : Geo) (K : Codec) (ok : GeoOk g K) (m0 : ℕ → ℕ → ℕ) (img 
                 dat-some g K x′ a b (λ w. y (sym (tab-same a h k) ∙ w)) ∙ ap (λ (q : ℕ). K .clus (l2 g x′ q b)) (tab-same a h k)
                 ∙ ap (K .clus) (link-l2 g K ok x (p .fine .sound) x′ sm i t iL hi tN st a b h n) ∙ sym (dat-some g K x a b y)
 
+    row-aside : (b : ℕ) → b < g .B → blk g m b ≢ row g i
+    row-aside b h =
+        blk-l1 g m (blk g m b) b (i / g .M) (i % g .M / g .E) h (omega (arith, tree-in g K ok i iL)) (row-in g K ok i iL hi) (fix-one g K ok m (k0 .sound) _ (k0 .sound .blkin b h)) refl
+
     pub link-step : Step g K ok m0 img k0 role role dead dead [] (linkStore g i (K .mk t) ∷ []) [] s (apply (g .C) (linkStore g i (K .mk t)) s)
     unfolding applyAll apply linkStore
     link-step =
@@ -167,6 +174,8 @@ module _ (g : Geo) (K : Codec) (ok : GeoOk g K) (m0 : ℕ → ℕ → ℕ) (img 
           taken = λ a b e n. absurd (n e);
           tables = λ u a b e. tabled u a b e (ℕ-discrete a i);
           stays = λ a b d. tab-same a b (λ e. d (ap (tab g K x) e ∙ z));
+          touch = none;
+          order = λ a b. sym (aside-cell g K ok m0 img k0 (linkStore g i (K .mk t)) s (record { inN = row-N g K ok i iL hi; inC = λ k. fits; local = λ k k′ e. refl }) (p .fine .len) row-aside a b);
           counted = λ a b. rw (link-cnt g K ok x (p .fine .sound) x′ sm i t iL hi tN st a b) (p .counted a b);
         }
       where

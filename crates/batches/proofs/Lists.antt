@@ -7,7 +7,7 @@ use Prim.Native.Nat.{ℕ, _+_, _-_, _*_, _≤_, _<_}
 use native.Mathlib.Nat.{mul-le-mul-right}
 use native.Mathlib.Decide.{ℕ-discrete, decLt}
 use native.Mathlib.Omega.{arith}
-use lib.ListN.{length, getD}
+use lib.ListN.{length, getD, replicate}
 use lib.Seq.{length-sets}
 use Rattle.cuts.proofs.Cell.{Stored, stored, mem}
 use Rattle.cuts.proofs.Run.{Store, apply, applyAll, picked, Each, none, also}
@@ -34,7 +34,7 @@ module _ (C N : ℕ) where
   unfolding apply
   length-apply u s = length-sets s (u .w * C + u .o) (u .bs (mem C s (u .w)))
 
-  store-of : (u : Store) (s : List ℕ) → Fit u → Whole s → Stored C (mem C s) (mem C (apply C u s)) (u .w) (u .o) (u .bs (mem C s (u .w)))
+  pub store-of : (u : Store) (s : List ℕ) → Fit u → Whole s → Stored C (mem C s) (mem C (apply C u s)) (u .w) (u .o) (u .bs (mem C s (u .w)))
   unfolding apply
   store-of u s f e = stored C s (u .w) (u .o) (u .bs (mem C s (u .w))) (omega (arith, e, mul-le-mul-right C (f .inN))) (f .inC (mem C s (u .w)))
 
@@ -96,6 +96,11 @@ picked-each [] h = none
 picked-each (c ∷ cs) none = none
 picked-each (true ∷ cs) (also p h) = also p (picked-each cs h)
 picked-each (false ∷ cs) (also p h) = picked-each cs h
+
+pub picked-whole : (us : List Store) → picked (replicate (length us) true) us ≡ us
+unfolding picked
+picked-whole [] = refl
+picked-whole (u ∷ us) = ap (λ (vs : List Store). u ∷ vs) (picked-whole us)
 
 -- a list is made of two others, each in its own order
 pub data Merge : List Store → List Store → List Store → Type 0 where

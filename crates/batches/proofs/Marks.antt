@@ -77,4 +77,4 @@ module _ (g : Geo) (K : Codec) (ok : GeoOk g K) (m0 : ℕ → ℕ → ℕ) (img 
   pub marked-call : (y : Dec (tab g K m i ≡ 0))
       → Step g K ok m0 img k0 role role dead dead (fill c 0 A ++ before y (entryStore g (tab g K x i) j (K .mk c))) ([] ++ among y (entryStore g (tab g K x i) j (K .mk c))) ([] ++ [])
       s (apply (g .C) (entryStore g (tab g K x i) j (K .mk c)) s₁)
-  marked-call y = compose g K ok m0 img k0 role role role dead dead dead _ _ _ _ _ _ s s₁ _ step₁ (step₂ y)
+  marked-call y = compose g K ok m0 img k0 role role role dead dead dead _ _ _ _ _ _ s s₁ _ (p .fine .len) step₁ (step₂ y)

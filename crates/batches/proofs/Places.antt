@@ -5,12 +5,11 @@ use mathlib.Core.List.{List, [], _∷_}
 use Prim.Native.Nat.{ℕ, zero, suc, _+_, _*_, _≤_, _<_}
 use native.Mathlib.Decide.{decLt}
 use native.Mathlib.Omega.{arith}
-use native.Mathlib.Nat.{zero-lt-suc}
 use lib.ListN.{length}
 use lib.Seq.{sets}
 use Rattle.cuts.proofs.Refs.{hit-self, refs-dat}
 use Rattle.cuts.proofs.Cell.{Small, mem}
-use Rattle.cuts.proofs.Meta.{Geo, GeoOk, Codec, cnt, l2, fix, tab, dat, refsOf, Keep, dat-none, dat-some, keep-tab, keep-refs}
+use Rattle.cuts.proofs.Meta.{Geo, GeoOk, Codec, blk, cnt, l2, fix, tab, dat, refsOf, Keep, dat-none, dat-some, keep-tab, keep-refs}
 use Rattle.cuts.proofs.Run.{Store, applyAll, fill, apply-fill, Each, none, also}
 use Rattle.cuts.proofs.Step.{dat-in}
 use Rattle.cuts.proofs.Write.{small-one}
@@ -19,6 +18,7 @@ use Rattle.batches.proofs.Mixture.{Use, datum, Place, Put, Old, Mixture
 use Rattle.batches.proofs.Prepared.{Ready, spare, inside, data-set}
 use Rattle.batches.proofs.Stores.{keep-mixture}
 use Rattle.batches.proofs.Planned.{keep-tabled, Planned}
+use Rattle.batches.proofs.Order.{cellAt, Touch, fill-touch, free-aside, data-aside}
 use Rattle.batches.proofs.Extend.{Step, merge-all-left}
 
 module _ (g : Geo) (K : Codec) (ok : GeoOk g K) (m0 : ℕ → ℕ → ℕ) (img : List ℕ) (k0 : Ok g K m0 img) (role : ℕ → Use) where
@@ -71,12 +71,17 @@ module _ (g : Geo) (K : Codec) (ok : GeoOk g K) (m0 : ℕ → ℕ → ℕ) (img 
   fill-ready i j c o (b ∷ bs) l n cN h p e =
       also (home-ready i j c o (b ∷ []) l n cN (omega arith) (small-one (p zero)) e) (fill-ready i j c (suc o) bs l n cN (omega arith) (λ x. p (suc x)) e)
 
+  home-aside : (i j c : ℕ) → i < g .L → j < g .E → Home i j c → (b : ℕ) → b < g .B → blk g m b ≢ c
+  home-aside i j c l n (old e d one) = rw e (data-aside g K ok m0 img k0 i j l n)
+  home-aside i j c l n (new z e) = free-aside g K ok m0 img k0 c z
+
   -- ---- a call that leaves the tables and the counts
   module _ (dead : ℕ → Type 0) (r l f : List Store) (s : List ℕ) (p : Planned g K ok m0 img k0 role dead r l f s) where
-    pub quiet-step : (us : List Store) (t : List ℕ) → Each (Ready g K ok m0 img) us → applyAll (g .C) us s ≡ t → Ok g K m0 t
+    pub quiet-step : (us : List Store) (t : List ℕ) → Each (Ready g K ok m0 img) us → Each (Touch g K ok m0 img k0 (λ c. dead c → ⊥)) us → applyAll (g .C) us s ≡ t → Ok g K m0 t
         → Keep g K (mem (g .C) s) (mem (g .C) t) → ((c : ℕ) → c < g .N → cnt g (mem (g .C) t) c ≡ cnt g (mem (g .C) s) c)
         → Step g K ok m0 img k0 role role dead dead us [] [] s t
-    quiet-step us t h e k q same =
+    unfolding applyAll
+    quiet-step us t h touched e k q same =
         record {
           grows = λ c d. refl;
           dying = λ c d. d;
@@ -94,6 +99,8 @@ module _ (g : Geo) (K : Codec) (ok : GeoOk g K) (m0 : ℕ → ℕ → ℕ) (img 
           taken = λ c n z d. absurd (d z);
           tables = λ a i n z. keep-tabled g K ok s t q a i (p .tables a i n z);
           stays = λ a n z. keep-tab g K ok (mem (g .C) s) (mem (g .C) t) q a n;
+          touch = touched;
+          order = λ c n. ap (λ (y : List ℕ). cellAt g K ok m0 img k0 y c) e;
           counted = λ c n. rw (same c n) (p .counted c n);
         }
 
@@ -103,7 +110,8 @@ module _ (g : Geo) (K : Codec) (ok : GeoOk g K) (m0 : ℕ → ℕ → ℕ) (img 
         → Step g K ok m0 img k0 role role dead dead (fill (dat g K (mem (g .C) s) i j) o bs) [] [] s (applyAll (g .C) (fill (dat g K (mem (g .C) s) i j) o bs) s)
     place-step i j o bs iL jE h sm d one =
         let e : applyAll (g .C) (fill c o bs) s ≡ sets s (c * g .C + o) bs = apply-fill (g .C) c o bs s in
-        quiet-step (fill c o bs) _ (fill-ready i j c o bs iL jE (dat-in g K ok x (p .fine .sound) i j iL jE) h sm (home x (p .mix) i j iL jE d one)) refl
+        quiet-step (fill c o bs) _ (fill-ready i j c o bs iL jE (dat-in g K ok x (p .fine .sound) i j iL jE) h sm (home x (p .mix) i j iL jE d one))
+        (fill-touch g K ok m0 img k0 (λ n. dead n → ⊥) c o bs (dat-in g K ok x (p .fine .sound) i j iL jE) h (home-aside i j c iL jE (home x (p .mix) i j iL jE d one))) refl
         (rw e (q .0)) (rw e (q .1)) (rw e (q .2))
       where
         x : ℕ → ℕ → ℕ

@@ -18,6 +18,7 @@ use Rattle.batches.proofs.Prepared.{Prepared, Ready, spare, prepared-st
 use Rattle.batches.proofs.Joined.{Joined, Linking}
 use Rattle.batches.proofs.Lists.{Fit, Agree, Apart, each-map, Merge, empty, left, right, merge-left}
 use Rattle.batches.proofs.Units.{ready-fit, linking-fit, linking-apart, count-fit}
+use Rattle.batches.proofs.Order.{cellAt, Cell}
 use Rattle.batches.proofs.Phases.{middle, late, two-phases, start, joined-late, Falling, falls, before-cut, among-cut, after-cut}
 
 pub tab-eq : (g : Geo) (K : Codec) (a b : ℕ → ℕ → ℕ) (i : ℕ) → l1 g a i ≡ l1 g b i → tab g K a i ≡ tab g K b i
@@ -106,7 +107,9 @@ module _ (g : Geo) (K : Codec) (ok : GeoOk g K) (m0 : ℕ → ℕ → ℕ) (img 
     pub falling : Each (Lowers dead s) f
     pub free : (c : ℕ) → c < g .N → role c ≢ unused → refsOf g K m c ≡ 0
     pub raise : (c : ℕ) → c < g .N → role c ≢ unused → Raises g K ok m0 img c r
+    pub bare : (c : ℕ) → c < g .N → role c ≢ unused → cnt g m c ≡ 0
     pub tables : (t i : ℕ) → t < g .N → role t ≡ table i → Tabled g K s t i
+    pub order : (c : ℕ) → Cell g K ok m0 img k0 c → cellAt g K ok m0 img k0 (applyAll (g .C) f (applyAll (g .C) r img)) c ≡ cellAt g K ok m0 img k0 s c
     pub counted : (c : ℕ) → c < g .N → dead c ⊎ (((role c ≢ unused) × (1 ≤ cnt g (mem (g .C) s) c)) ⊎ ((role c ≡ unused) × (cnt g (mem (g .C) s) c ≡ cnt g m c)))
 
   -- every new table is linked: no call is under way

@@ -44,7 +44,7 @@ module _ (g : Geo) (K : Codec) (ok : GeoOk g K) (m0 : ℕ → ℕ → ℕ) (img 
   pub idle-step : (dead : ℕ → Type 0) (r l f : List Store) (s : List ℕ) → Planned g K ok m0 img k0 role dead r l f s → Step g K ok m0 img k0 role role dead dead [] [] [] s s
   unfolding applyAll
   idle-step dead r l f s p =
-      quiet-step g K ok m0 img k0 role dead r l f s p [] s none refl (p .fine) (record { small = p .fine .sound .bytes; rts = λ a h. refl; l1s = λ a h. refl; l2s = λ a b h n d. refl }) (λ c n. refl)
+      quiet-step g K ok m0 img k0 role dead r l f s p [] s none none refl (p .fine) (record { small = p .fine .sound .bytes; rts = λ a h. refl; l1s = λ a h. refl; l2s = λ a b h n d. refl }) (λ c n. refl)
 
   pub falls-call : (fs : List Fall) (dead : ℕ → Type 0) (r l f : List Store) (s : List ℕ) → Planned g K ok m0 img k0 role dead r l f s → Covers (mem (g .C) s) fs
       → Step g K ok m0 img k0 role role dead (lowered fs dead) [] [] (fallUnits fs) s (applyAll (g .C) (fallUnits fs) s)
@@ -52,7 +52,7 @@ module _ (g : Geo) (K : Codec) (ok : GeoOk g K) (m0 : ℕ → ℕ → ℕ) (img 
   falls-call [] dead r l f s p c = idle-step dead r l f s p
   falls-call (a ∷ fs) dead r l f s p (one-more h lv n c) =
       compose g K ok m0 img k0 role role role dead (λ b. dead b ⊎ (b ≡ a .cluster)) (lowered fs (λ b. dead b ⊎ (b ≡ a .cluster))) [] [] (countStore g m (a .cluster) (a .value) ∷ [])
-      [] [] (fallUnits fs) s (apply (g .C) (countStore g m (a .cluster) (a .value)) s) _
+      [] [] (fallUnits fs) s (apply (g .C) (countStore g m (a .cluster) (a .value)) s) _ (p .fine .len)
       (fall-step g K ok m0 img k0 role dead r l f s p (a .cluster) (a .value) h lv n)
       (falls-call fs (λ b. dead b ⊎ (b ≡ a .cluster)) (r ++ []) (l ++ []) (f ++ (countStore g m (a .cluster) (a .value) ∷ [])) (apply (g .C) (countStore g m (a .cluster) (a .value)) s)
       (extend g K ok m0 img k0 role role dead (λ b. dead b ⊎ (b ≡ a .cluster)) r l f [] [] (countStore g m (a .cluster) (a .value) ∷ []) s _ p

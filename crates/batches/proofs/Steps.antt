@@ -7,18 +7,19 @@ use native.Mathlib.Decide.{ℕ-discrete}
 use native.Mathlib.Omega.{arith}
 use lib.ListN.{length}
 use lib.Seq.{sets}
-use Rattle.cuts.proofs.Refs.{hit, hit-self, hit-other, hit-zero, refs-tab, free-dat}
+use Rattle.cuts.proofs.Refs.{fix-tab, hit, hit-self, hit-other, hit-zero, refs-tab, free-dat}
 use Rattle.cuts.proofs.Cell.{enc, length-enc, small-enc, Stored, mem}
-use Rattle.cuts.proofs.Meta.{Geo, GeoOk, Codec, blk, cnt, l1, fix, tab, dat, refsOf, keep-tab, keep-refs}
-use Rattle.cuts.proofs.Step.{tab-in, free-not-0, entry-tab, entry-cnt, entry-refs}
+use Rattle.cuts.proofs.Meta.{Geo, GeoOk, Codec, fix-blk, blk-0, blk, cnt, l1, fix, tab, dat, refsOf, keep-tab, keep-refs}
+use Rattle.cuts.proofs.Step.{fix-one, tab-in, free-not-0, entry-tab, entry-cnt, entry-refs}
 use Rattle.cuts.proofs.Run.{Store, apply, applyAll, Each, none, also}
 use Rattle.cuts.proofs.Call.{Ok, countStore, entryStore, next-small, next-stored, CountSet, then-count, one-fits}
 use Rattle.batches.proofs.Mixture.{linked-free, Use, unused, table, kind, used-table, Linked, Place, Put, mix-tab}
 use Rattle.batches.proofs.Prepared.{Ready, counts, spare, Raises, here}
 use Rattle.batches.proofs.Joined.{Linking, enters}
-use Rattle.batches.proofs.Lists.{Merge}
+use Rattle.batches.proofs.Lists.{Fit, Merge}
 use Rattle.batches.proofs.Stores.{keep-mixture, entry-mixture}
 use Rattle.batches.proofs.Planned.{Tabled, keep-tabled, Planned, lowers, blk-eq, tab-eq}
+use Rattle.batches.proofs.Order.{cellAt, Cell, Touch, sets as setsCount, passes, aside-cell}
 use Rattle.batches.proofs.Extend.{Step, Grows, grow-mix, merge-all-left, merge-all-right}
 use Rattle.batches.proofs.Places.{one-before}
 
@@ -73,13 +74,13 @@ module _ (g : Geo) (K : Codec) (ok : GeoOk g K) (m0 : ℕ → ℕ → ℕ) (img 
   blocks b h = blk-eq g x m b (p .mix .rts b (omega (arith, ok .rtfit)))
 
   -- a cluster whose count is 0, and which the batch has not lowered, had none in the first image
-  pub fresh : (c : ℕ) → c < g .N → cnt g x c ≡ 0 → (dead c → ⊥) → (role c ≡ unused) × (refsOf g K m c ≡ 0)
+  pub fresh : (c : ℕ) → c < g .N → cnt g x c ≡ 0 → (dead c → ⊥) → (role c ≡ unused) × (refsOf g K m c ≡ 0) × (cnt g m c ≡ 0)
   fresh c h z n = go (p .counted c h)
     where
-      go : dead c ⊎ (((role c ≢ unused) × (1 ≤ cnt g x c)) ⊎ ((role c ≡ unused) × (cnt g x c ≡ cnt g m c))) → (role c ≡ unused) × (refsOf g K m c ≡ 0)
+      go : dead c ⊎ (((role c ≢ unused) × (1 ≤ cnt g x c)) ⊎ ((role c ≡ unused) × (cnt g x c ≡ cnt g m c))) → (role c ≡ unused) × (refsOf g K m c ≡ 0) × (cnt g m c ≡ 0)
       go (inl d) = absurd (n d)
       go (inr (inl d)) = absurd (omega (arith, z, d .1))
-      go (inr (inr d)) = (d .0, omega (arith, z, d .1, k0 .sound .inv .covered c h))
+      go (inr (inr d)) = (d .0, omega (arith, z, d .1, k0 .sound .inv .covered c h), omega (arith, z, d .1))
 
   pub set-count : (c v : ℕ) → c < g .N → v < 2 ^ g .W → refsOf g K x c ≤ v → CountSet g K ok m0 s (apply (g .C) (countStore g m c v) s) c v
   set-count c v h lv n = then-count g K ok m0 img s (p .fine) c v h lv n blocks
@@ -106,13 +107,15 @@ module _ (g : Geo) (K : Codec) (ok : GeoOk g K) (m0 : ℕ → ℕ → ℕ) (img 
         taken = λ a b e d. took a e d (ℕ-discrete a c);
         tables = λ t a b e. keep-tabled g K ok s (apply (g .C) (countStore g m c 1) s) (q .keep) t a (tabled t a b e (ℕ-discrete t c));
         stays = λ a b d. keep-tab g K ok x _ (q .keep) a b;
+        touch = also (setsCount c 1 h (one-fits g K ok m0) n) none;
+        order = λ a b. refl;
         counted = λ a b. count a b (ℕ-discrete a c);
       }
     where
       role′ : ℕ → Use
       role′ = assign role c u
 
-      fr : (role c ≡ unused) × (refsOf g K m c ≡ 0)
+      fr : (role c ≡ unused) × (refsOf g K m c ≡ 0) × (cnt g m c ≡ 0)
       fr = fresh c h z n
 
       grows : Grows role (assign role c u)
@@ -121,8 +124,8 @@ module _ (g : Geo) (K : Codec) (ok : GeoOk g K) (m0 : ℕ → ℕ → ℕ) (img 
       q : CountSet g K ok m0 s (apply (g .C) (countStore g m c 1) s) c 1
       q = set-count c 1 h (one-fits g K ok m0) (omega (arith, z, p .fine .sound .inv .covered c h))
 
-      took : (a : ℕ) → role a ≡ unused → assign role c u a ≢ unused → Dec (a ≡ c) → (refsOf g K m a ≡ 0) × Raises g K ok m0 img a (countStore g m c 1 ∷ [])
-      took a e d (yes y) = rw y (fr .1, here 1 (omega arith) (one-fits g K ok m0) (omega (arith, fr .1)))
+      took : (a : ℕ) → role a ≡ unused → assign role c u a ≢ unused → Dec (a ≡ c) → (refsOf g K m a ≡ 0) × Raises g K ok m0 img a (countStore g m c 1 ∷ []) × (cnt g m a ≡ 0)
+      took a e d (yes y) = rw y (fr .1, here 1 (omega arith) (one-fits g K ok m0) (omega (arith, fr .1)), fr .2)
       took a e d (no y) = absurd (d (assign-other role c u a y ∙ e))
 
       tabled : (t a : ℕ) → t < g .N → assign role c u t ≡ table a → Dec (t ≡ c) → Tabled g K s t a
@@ -159,6 +162,8 @@ module _ (g : Geo) (K : Codec) (ok : GeoOk g K) (m0 : ℕ → ℕ → ℕ) (img 
         taken = λ a b e d. absurd (d e);
         tables = λ t a b e. keep-tabled g K ok s (apply (g .C) (countStore g m c v) s) (q .keep) t a (p .tables t a b e);
         stays = λ a b d. keep-tab g K ok x _ (q .keep) a b;
+        touch = none;
+        order = λ a b. refl;
         counted = λ a b. count a b (ℕ-discrete a c) (p .counted a b);
       }
     where
@@ -216,6 +221,28 @@ module _ (g : Geo) (K : Codec) (ok : GeoOk g K) (m0 : ℕ → ℕ → ℕ) (img 
     unfolding apply entryStore
     entry-moved = entry-refs g K ok x (p .fine .sound) x′ sm i j v iL jE some alone (q .good) lv st
 
+    aside : (b : ℕ) → b < g .B → blk g m b ≢ tab g K x i
+    aside b h =
+        let w : 1 ≤ fix g x (blk g x b) = fix-blk g x (blk g x b) b h refl in
+        rw (blocks b h) at
+        (fix-tab (g .L) (g .E) (fix g x) (tab g K x) (dat g K x) (blk g x b) i iL (blk-0 g x (blk g x b) b h (fix-one g K ok x (p .fine .sound) _ (p .fine .sound .blkin b h)) refl)
+        (p .fine .sound .inv .fixed _ (p .fine .sound .blkin b h) w) w)
+
+    fit : Fit (g .C) (g .N) (entryStore g (tab g K x i) j v)
+    unfolding entryStore
+    fit = record { inN = tN; inC = λ k. fits; local = λ k k′ e. refl }
+
+    touched : (d : Dec (tab g K m i ≡ 0)) → Each (Touch g K ok m0 img k0 (λ c. dead c → ⊥)) (before d (entryStore g (tab g K x i) j v))
+    unfolding entryStore
+    touched (yes z) = also (passes _ fit aside) none
+    touched (no d) = none
+
+    ordered : (d : Dec (tab g K m i ≡ 0)) → (c : ℕ) → Cell g K ok m0 img k0 c
+        → cellAt g K ok m0 img k0 (applyAll (g .C) (before d (entryStore g (tab g K x i) j v)) s) c ≡ cellAt g K ok m0 img k0 (apply (g .C) (entryStore g (tab g K x i) j v) s) c
+    unfolding applyAll entryStore
+    ordered (yes z) c h = refl
+    ordered (no d) c h = sym (aside-cell g K ok m0 img k0 (entryStore g (tab g K x i) j v) s fit (p .fine .len) aside c h)
+
     pub entry-step : (d : Dec (tab g K m i ≡ 0))
         → Step g K ok m0 img k0 role role dead dead (before d (entryStore g (tab g K x i) j v)) (among d (entryStore g (tab g K x i) j v)) [] s (apply (g .C) (entryStore g (tab g K x i) j v) s)
     unfolding applyAll apply entryStore
@@ -237,6 +264,8 @@ module _ (g : Geo) (K : Codec) (ok : GeoOk g K) (m0 : ℕ → ℕ → ℕ) (img 
           taken = λ a b e n. absurd (n e);
           tables = λ t a b e. tabled t a b e (p .tables t a b e);
           stays = λ a b d. same-tab a b;
+          touch = touched d;
+          order = λ a b. ordered d a b;
           counted = λ a b. rw (entry-cnt g K ok x (p .fine .sound) x′ sm i j v iL jE some alone (q .good) lv st a b) (p .counted a b);
         }
       where

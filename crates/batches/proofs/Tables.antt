@@ -1,12 +1,12 @@
 -- A write of a batch into a new cluster, with a new table. Assumes nothing.
-use mathlib.Core.Path.{_≡_, refl, sym, ap, _∙_, subst}
+use mathlib.Core.Path.{_≡_, sym, ap, _∙_, subst}
 use mathlib.Core.Logic.{_⊎_, inl, inr, _≢_}
 use mathlib.Core.List.{List, [], _∷_, _++_}
-use Prim.Native.Nat.{ℕ, zero, suc, _+_, _*_, _≤_, _<_}
+use Prim.Native.Nat.{ℕ, _+_, _*_, _≤_, _<_}
 use native.Mathlib.Nat.{zero-add}
 use native.Mathlib.Decide.{ℕ-discrete}
 use native.Mathlib.Omega.{arith}
-use lib.ListN.{length, getD, replicate, length-replicate}
+use lib.ListN.{length, replicate, length-replicate}
 use Rattle.cuts.proofs.Cell.{enc, length-enc, small-enc, Small, Stored, stored-num, stored-apart, mem}
 use Rattle.cuts.proofs.Meta.{Geo, GeoOk, Codec, cnt, Has, l1, l2, tab, dat, refsOf, Keep, dat-none, keep-tab, keep-refs}
 use Rattle.cuts.proofs.Step.{free-not-0, steps-apart}
@@ -221,6 +221,6 @@ module _ (g : Geo) (K : Codec) (ok : GeoOk g K) (m0 : ℕ → ℕ → ℕ) (img 
         ((((countStore g m t 1 ∷ []) ++ fill t 0 Z) ++ ((countStore g m c 1 ∷ []) ++ fill c 0 A)) ++ ((entryStore g t j (K .mk c) ∷ []) ++ []))
         ((([] ++ []) ++ ([] ++ [])) ++ ([] ++ (linkStore g i (K .mk t) ∷ []))) ((([] ++ []) ++ ([] ++ [])) ++ ([] ++ [])) s s₄
     table-call =
-        compose g K ok m0 img k0 role role₂ role₂ dead dead dead _ _ _ _ _ _ s s₂ s₄
-        (compose g K ok m0 img k0 role role₁ role₂ dead dead dead _ _ _ _ _ _ s s₁ s₂ step₁ step₂)
-        (compose g K ok m0 img k0 role₂ role₂ role₂ dead dead dead _ _ _ _ _ _ s₂ s₃ s₄ step₃ step₄)
+        compose g K ok m0 img k0 role role₂ role₂ dead dead dead _ _ _ _ _ _ s s₂ s₄ (p .fine .len)
+        (compose g K ok m0 img k0 role role₁ role₂ dead dead dead _ _ _ _ _ _ s s₁ s₂ (p .fine .len) step₁ step₂)
+        (compose g K ok m0 img k0 role₂ role₂ role₂ dead dead dead _ _ _ _ _ _ s₂ s₃ s₄ (plan₂ .fine .len) step₃ step₄)

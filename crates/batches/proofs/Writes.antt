@@ -74,4 +74,4 @@ module _ (g : Geo) (K : Codec) (ok : GeoOk g K) (m0 : ℕ → ℕ → ℕ) (img 
       pub alloc-call : (d : Dec (tab g K m i ≡ 0))
           → Step g K ok m0 img k0 role given dead dead (((countStore g m c 1 ∷ []) ++ fill c 0 A) ++ before d (entryStore g (tab g K x i) j (K .mk c)))
           (([] ++ []) ++ among d (entryStore g (tab g K x i) j (K .mk c))) (([] ++ []) ++ []) s (apply (g .C) (entryStore g (tab g K x i) j (K .mk c)) t₂)
-      alloc-call d = compose g K ok m0 img k0 role given given dead dead dead _ _ _ _ _ _ s t₂ _ (allot-step g K ok m0 img k0 role dead r l f s p c (datum i j) (used-datum i j) noTable A cN zeroed spared lA smA) (step₃ d)
+      alloc-call d = compose g K ok m0 img k0 role given given dead dead dead _ _ _ _ _ _ s t₂ _ (p .fine .len) (allot-step g K ok m0 img k0 role dead r l f s p c (datum i j) (used-datum i j) noTable A cN zeroed spared lA smA) (step₃ d)
