@@ -64,7 +64,7 @@ pub covers-one : (u : UnitStore) (x : ℕ) → covers (extents (u ∷ [])) x ≡
 unfolding extents covers
 covers-one u x h = holds-in u x (sym (or-none (holds u x)) ∙ sym (covers-join u [] x) ∙ h)
 
-covers-append : (ys zs : List Extent) (x : ℕ) → covers (ys ++ zs) x ≡ (covers ys x || covers zs x)
+pub covers-append : (ys zs : List Extent) (x : ℕ) → covers (ys ++ zs) x ≡ (covers ys x || covers zs x)
 unfolding covers
 covers-append [] zs x = refl
 covers-append (y ∷ ys) zs x = ap (λ (b : Bool). among (y .at) (y .len) x || b) (covers-append ys zs x) ∙ sym (or-assoc (among (y .at) (y .len) x) _ _)

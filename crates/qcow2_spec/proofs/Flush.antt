@@ -7,7 +7,7 @@ use mathlib.Core.Bool.{Bool, true, false, _&&_}
 use mathlib.Core.List.{List, [], _∷_, _++_, append-assoc, append-nil}
 use lib.Dec.{leb, eqb}
 use lib.ListN.{length, take, drop, replicate, length-append, take-append-drop}
-use lib.Seq.{take-length, drop-length, take-append-seam, drop-append-seam, take-append-le, drop-append-le, take-append-add, drop-append-add}
+use lib.Seq.{take-nil, take-length, drop-length, take-append-seam, drop-append-seam, take-append-le, drop-append-le, take-append-add, drop-append-add}
 use borrow.Author.Tests.{leb-true, leb-false, le-leb}
 use Rattle.choice.specs.Pick.{unless}
 use Rattle.choice.proofs.Tests.{true-not-false, if-yes, if-no, if-elim, and-true, two-ways}
@@ -112,6 +112,16 @@ pub held-end : (M Q : List ℕ → Type 0) (es : List (List UnitStore)) (t : Lis
 unfolding Held joined applyAll
 held-end M Q [] t h = h
 held-end M Q (us ∷ es) t h = rw applyAll-append (held-end M Q es (applyAll us t) (h .1))
+
+-- with no unit chosen, a cut is a smooth one
+pub loosely-none : (es : List (List UnitStore)) (a : ℕ) → loosely es a [] ≡ take a (joined es)
+unfolding loosely joined picked
+loosely-none [] a = sym (take-nil {A = UnitStore} a)
+loosely-none (us ∷ es) a =
+    if-elim (λ (vs : List UnitStore). vs ≡ take a (us ++ joined es)) (leb (length us) a) _ _
+    (λ e. let h : length us + (a - length us) ≡ a = omega (arith, leb-true (length us) a e) in
+    ap (λ (vs : List UnitStore). us ++ vs) (loosely-none es (a - length us)) ∙ sym (take-append-add us (joined es) (a - length us)) ∙ ap (λ (n : ℕ). take n (us ++ joined es)) h)
+    (λ e. append-nil (take a us) ∙ sym (take-append-le a us (joined es) (omega (arith, leb-false (length us) a e))))
 
 -- a list that is stored whole is not cut
 pub loosely-all : (es : List (List UnitStore)) (a : ℕ) (cs : List Bool) → length (joined es) ≤ a → loosely es a cs ≡ joined es

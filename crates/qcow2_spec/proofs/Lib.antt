@@ -17,6 +17,8 @@ pub mod Flush
 pub mod Sectors
 pub mod Extents
 pub mod Units
+pub mod Seen
+pub mod Kind
 pub mod Plans
 pub mod Series
 pub mod Brought

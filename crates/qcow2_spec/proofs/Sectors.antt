@@ -23,7 +23,7 @@ use Rattle.widths.proofs.Cells.{recell, length-recell, recell-cong, getD-sets-o
 use Rattle.units.specs.Units.{UnitStore, byte, entry, count, apply, applyAll}
 use Rattle.units.proofs.Laws.{length-apply, length-applyAll, applyAll-append}
 use Rattle.qcow2_spec.specs.Flush.{picked, loosely, drive, driveCut}
-use Rattle.qcow2_spec.proofs.Flush.{picked-nil, loosely-past}
+use Rattle.qcow2_spec.proofs.Flush.{picked-nil, loosely-none, loosely-past}
 
 -- ---- one byte of an image that is stored to
 set-same : (l m : List ℕ) (at b x : ℕ) → length l ≡ length m → getD l x 0 ≡ getD m x 0 → getD (set l at b) x 0 ≡ getD (set m at b) x 0
@@ -173,12 +173,6 @@ unfoldable pub Ins : List (List UnitStore) → Type 0
 Ins [] = Unit {0}
 Ins (us ∷ es) = AllIn 512 us × Ins es
 
-loosely-none : (es : List (List UnitStore)) → loosely es 0 [] ≡ []
-unfolding loosely picked
-loosely-none [] = refl
-loosely-none ([] ∷ es) = loosely-past [] es 0 0 [] refl ∙ loosely-none es
-loosely-none ((u ∷ us) ∷ es) = if-no (leb (length (u ∷ us)) 0) _ _ (lt-leb (length (u ∷ us)) 0 (omega arith))
-
 -- a cut before the first unit of an epoch
 loosely-first : (us : List UnitStore) (es : List (List UnitStore)) (cs : List Bool) → 0 < length us → loosely (us ∷ es) 0 cs ≡ picked cs us
 unfolding loosely
@@ -187,8 +181,8 @@ loosely-first us es cs h = if-no (leb (length us) 0) _ _ (lt-leb (length us) 0 h
 pub drive-loose : (es : List (List UnitStore)) (s : List ℕ) → Ins es → (e : ℕ) (stored : ℕ → Bool)
     → (a : ℕ) × (cs : List Bool) × (driveCut es e stored s ≡ applyAll (loosely es a cs) s)
 unfolding driveCut Ins applyAll
-drive-loose [] s k e stored = (0, [], ap (λ (us : List UnitStore). applyAll us s) (sym (loosely-none [])))
-drive-loose ([] ∷ es) s k zero stored = (0, [], drive-is stored [] s (k .0) ∙ ap (λ (us : List UnitStore). applyAll us s) (picked-nil (flags 512 stored []) ∙ sym (loosely-none ([] ∷ es))))
+drive-loose [] s k e stored = (0, [], ap (λ (us : List UnitStore). applyAll us s) (sym (loosely-none [] 0)))
+drive-loose ([] ∷ es) s k zero stored = (0, [], drive-is stored [] s (k .0) ∙ ap (λ (us : List UnitStore). applyAll us s) (picked-nil (flags 512 stored []) ∙ sym (loosely-none ([] ∷ es) 0)))
 drive-loose ((u ∷ us) ∷ es) s k zero stored = (
   0,
   flags 512 stored (u ∷ us),

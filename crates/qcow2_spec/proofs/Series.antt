@@ -37,21 +37,22 @@ use Rattle.qcow2_spec.proofs.Verdicts.{refs-own, healthy-sound, sound-h
 use Rattle.qcow2_spec.proofs.Ways.{rd, guest-rd, in-root, inside, accepted, read-whole, read-outside}
 use Rattle.qcow2_spec.proofs.Rough.{smooth-cut}
 use Rattle.qcow2_spec.proofs.Flush.{held-cut, held-end, epochs-whole, loosely-all, rough-loose}
-use Rattle.qcow2_spec.proofs.Plans.{Mid, End, fed-same, Shots, Exact, Sure, untouched, sure-in, plan-sure}
+use Rattle.qcow2_spec.proofs.Seen.{fed-same, Shots, Exact}
+use Rattle.qcow2_spec.proofs.Plans.{Mid, End, Sure, untouched, sure-in, plan-sure}
 use Rattle.qcow2_spec.proofs.Sectors.{drive-loose}
 
 -- an image of the series: accepted, sound or leaking, of the first image's shape, and with its snapshots
-record Good (backing start s : List ℕ) : Type 0 where
-  judged : judge backing s ≡ 0
-  bytes : Bytes s
-  sound : Sound (geo s) (code s) (mem (clusterSize s) s)
-  one-size : diskSize s ≡ diskSize start
-  one-C : clusterSize s ≡ clusterSize start
-  one-N : clusters s ≡ clusters start
-  one-length : length s ≡ length start
-  one-roots : roots s ≡ roots start
-  one-reach : (t : ℕ) → t < roots start → reach s t ≡ reach start t
-  shots : (k y : ℕ) → suc k < roots start → y < reach start (suc k) → guestByte backing s (suc k) y ≡ guestByte backing start (suc k) y
+pub record Good (backing start s : List ℕ) : Type 0 where
+  pub judged : judge backing s ≡ 0
+  pub bytes : Bytes s
+  pub sound : Sound (geo s) (code s) (mem (clusterSize s) s)
+  pub one-size : diskSize s ≡ diskSize start
+  pub one-C : clusterSize s ≡ clusterSize start
+  pub one-N : clusters s ≡ clusters start
+  pub one-length : length s ≡ length start
+  pub one-roots : roots s ≡ roots start
+  pub one-reach : (t : ℕ) → t < roots start → reach s t ≡ reach start t
+  pub shots : (k y : ℕ) → suc k < roots start → y < reach start (suc k) → guestByte backing s (suc k) y ≡ guestByte backing start (suc k) y
 
 pub each-same : (f g : ℕ → ℕ) (k x : ℕ) → ((y : ℕ) → x ≤ y → y < x + k → f y ≡ g y) → each f x k ≡ each g x k
 each-same f g zero x h = refl
@@ -71,10 +72,10 @@ unfolding outside
 no-root s t x len h = rw (le-leb (roots s) t h) refl
 
 module _ (backing start s : List ℕ) (k : Good backing start s) where
-  fs : Facts s
+  pub fs : Facts s
   fs = judge-facts backing s (k .judged)
 
-  own : Ok (geo s) (code s) (mem (clusterSize s) s) s
+  pub own : Ok (geo s) (code s) (mem (clusterSize s) s) s
   own = record { len = sym (n-whole s fs); small = k .bytes; sound = k .sound; head = λ x l b. refl; table = λ i l. refl; directory = λ q x l h. refl }
 
   checked : (n : ℕ) → 2 * clusters start ≤ n → check backing s n ≡ verdict s
@@ -114,7 +115,7 @@ module _ (backing start s : List ℕ) (k : Good backing start s) where
           (λ y l m. k .shots n y h (omega (arith, inside start f0 (suc n) x (length out) w .1)))
           ∙ sym (read-whole start f0 backing (b .judged) (b .sound) (suc n) x out w)
 
-  agrees : Good backing start start → Agrees backing start s (guestByte backing s 0)
+  pub agrees : Good backing start start → Agrees backing start s (guestByte backing s 0)
   agrees b =
       record {
         accepted = λ t x len h l. accepted s fs backing (k .judged) (k .sound) t x len (within t x len h l);
@@ -126,7 +127,7 @@ module _ (backing start s : List ℕ) (k : Good backing start s) where
         same-length = k .one-length;
       }
 
-  mended : ((c : ℕ) → c < clusters s → countOf s c ≡ occurrences c (references s)) → Mended backing start s
+  pub mended : ((c : ℕ) → c < clusters s → countOf s c ≡ occurrences c (references s)) → Mended backing start s
   mended h =
       record {
         sound = λ n l. checked n l ∙ exact-sound s fs (k .sound) h;
@@ -135,13 +136,13 @@ module _ (backing start s : List ℕ) (k : Good backing start s) where
 
   -- what a kept image is by its own header
   module _ (t : List ℕ) (q : Ok (geo s) (code s) (mem (clusterSize s) s) t) where
-    moved : (P : Geo → Codec → Type 0) → P (geo s) (code s) → P (geo t) (code t)
+    pub moved : (P : Geo → Codec → Type 0) → P (geo s) (code s) → P (geo t) (code t)
     moved P p = subst (λ (g : Geo). P g (code t)) (sym (same-geo s fs t q)) (subst (λ (K : Codec). P (geo s) K) (sym (same-code s fs t q)) p)
 
-    next-sound : Sound (geo t) (code t) (mem (clusterSize t) t)
+    pub next-sound : Sound (geo t) (code t) (mem (clusterSize t) t)
     next-sound = moved (λ (g : Geo) (K : Codec). Sound g K (mem (g .C) t)) (q .sound)
 
-    next-facts : Facts t
+    pub next-facts : Facts t
     next-facts = judge-facts backing t (same-judge s fs t q backing ∙ k .judged)
 
     same-reach : (u : ℕ) → u < roots s → reach t u ≡ reach s u
@@ -159,7 +160,7 @@ module _ (backing start s : List ℕ) (k : Good backing start s) where
         ∙ ap₂ (λ (g : Geo) (K : Codec). rd g K (backingByte backing t) t u y) (same-geo s fs t q) (same-code s fs t q)
         ∙ ap (λ (v : ℕ). rd (geo s) (code s) (λ w. v) t u y) (same-backing y)
 
-    next-good : Shots backing s fs t → Good backing start t
+    pub next-good : Shots backing s fs t → Good backing start t
     next-good sh =
         record {
           judged = same-judge s fs t q backing ∙ k .judged;
@@ -181,11 +182,11 @@ module _ (backing start s : List ℕ) (k : Good backing start s) where
             (omega (arith, in-root s fs (suc n) y h, root-few s fs (suc n) l)) (omega arith) (mod-lt (y / clusterSize s) (e-pos s fs)) (mod-lt y (c-pos s fs)))
             ∙ sym (guest-rd s fs backing (k .sound) (suc n) l y h)
 
-    next-seen : SameDisk (diskSize s) (rd (geo s) (code s) (backingByte backing s) t 0) (guestByte backing t 0)
+    pub next-seen : SameDisk (diskSize s) (rd (geo s) (code s) (backingByte backing s) t 0) (guestByte backing t 0)
     unfolding SameDisk
     next-seen y l = sym (next-byte 0 (omega (arith, root-count s fs)) y (rw (reach-0 s) l))
 
-    next-exact : ((c : ℕ) → c < clusters s → cnt (geo s) (mem (clusterSize s) t) c ≡ refsOf (geo s) (code s) (mem (clusterSize s) t) c)
+    pub next-exact : ((c : ℕ) → c < clusters s → cnt (geo s) (mem (clusterSize s) t) c ≡ refsOf (geo s) (code s) (mem (clusterSize s) t) c)
         → (c : ℕ) → c < clusters t → countOf t c ≡ occurrences c (references t)
     next-exact h c l =
         sym (cnt-own t next-facts c l)
@@ -193,27 +194,31 @@ module _ (backing start s : List ℕ) (k : Good backing start s) where
         ∙ sym (refs-own t next-facts next-sound c)
 
 -- ---- the plain disk may be read off by either side
-finished-same : (C size : ℕ) (r : Request) (a b : ℕ → ℕ) → SameDisk size a b → SameDisk size (finished C r a) (finished C r b)
-unfolding SameDisk finished
-finished-same C size (write x d) a b h y l = ap (λ (v : ℕ). if leb x y && ltb y (x + length d) then getD d (y - x) 0 else v) (h y l)
-finished-same C size (discard g) a b h y l = ap (λ (v : ℕ). if eqb (y / C) g then 0 else v) (h y l)
-finished-same C size (repair n) a b h y l = h y l
+pub finished-at : (C : ℕ) (r : Request) (a b : ℕ → ℕ) (y : ℕ) → a y ≡ b y → finished C r a y ≡ finished C r b y
+unfolding finished
+finished-at C (write x d) a b y e = ap (λ (v : ℕ). if leb x y && ltb y (x + length d) then getD d (y - x) 0 else v) e
+finished-at C (discard g) a b y e = ap (λ (v : ℕ). if eqb (y / C) g then 0 else v) e
+finished-at C (repair n) a b y e = e
+
+pub finished-same : (C size : ℕ) (r : Request) (a b : ℕ → ℕ) → SameDisk size a b → SameDisk size (finished C r a) (finished C r b)
+unfolding SameDisk
+finished-same C size r a b h y l = finished-at C r a b y (h y l)
 
 -- ---- one call
-unfoldable ExactBy : (backing s : List ℕ) → Facts s → Request → Outcome → List ℕ → Type 0
+unfoldable pub ExactBy : (backing s : List ℕ) → Facts s → Request → Outcome → List ℕ → Type 0
 ExactBy backing s f r (Refused n) t = Unit {0}
 ExactBy backing s f r (Stopped u) t = Unit {0}
 ExactBy backing s f r (Finished u) t = Exact backing s f r t
 
 module _ (backing start s : List ℕ) (k : Good backing start s) where
-  record Result (r : Request) (o : Outcome) (b : Bool) (t : List ℕ) : Type 0 where
-    kept : Ok (geo s) (code s) (mem (clusterSize s) s) t
-    fed : Fed o b (diskSize s) (rd (geo s) (code s) (backingByte backing s) s 0) (finished (clusterSize s) r (rd (geo s) (code s) (backingByte backing s) s 0)) (rd (geo s) (code s) (backingByte backing s) t 0)
-    shots : Shots backing s (fs backing start s k) t
-    exact : ExactBy backing s (fs backing start s k) r o t
+  pub record Result (r : Request) (o : Outcome) (b : Bool) (t : List ℕ) : Type 0 where
+    pub kept : Ok (geo s) (code s) (mem (clusterSize s) s) t
+    pub fed : Fed o b (diskSize s) (rd (geo s) (code s) (backingByte backing s) s 0) (finished (clusterSize s) r (rd (geo s) (code s) (backingByte backing s) s 0)) (rd (geo s) (code s) (backingByte backing s) t 0)
+    pub shots : Shots backing s (fs backing start s k) t
+    pub exact : ExactBy backing s (fs backing start s k) r o t
 
   -- what a cut leaves, and what is left once all is stored
-  result : Bytes backing → (r : Request) (a : ℕ) (cs : List Bool) (p : Plan) → Sure backing s (fs backing start s k) r p → Result r (outcome p a) (storesCount (planUnits p)) (afterLoose p a cs s)
+  pub result : Bytes backing → (r : Request) (a : ℕ) (cs : List Bool) (p : Plan) → Sure backing s (fs backing start s k) r p → Result r (outcome p a) (storesCount (planUnits p)) (afterLoose p a cs s)
   unfolding outcome ended afterLoose planUnits applyAll Sure Fed ExactBy SameDisk
   result bb r a cs (refused n) h = rw (loosely-all (epochs s []) a cs (rw (epochs-whole s []) (omega arith)), epochs-whole s []) (record { kept = own backing start s k; fed = λ y l. refl; shots = λ u b x l n p q. refl; exact = tt })
   result bb r a cs (units us) h =
@@ -225,12 +230,12 @@ module _ (backing start s : List ℕ) (k : Good backing start s) where
       (λ e. let q = held-cut M Q (epochs s us) s (untouched backing s (fs backing start s k) bb (own backing start s k) r (storesCount us)) (h .0) a cs in
       record { kept = q .0; fed = q .1 a; shots = q .2; exact = tt })
 
-  first-cleared : (r : Request) (a : ℕ) (cs : List Bool) (p : Plan) → Sure backing s (fs backing start s k) r p → ClearedFirst s (afterLoose p a cs s)
+  pub first-cleared : (r : Request) (a : ℕ) (cs : List Bool) (p : Plan) → Sure backing s (fs backing start s k) r p → ClearedFirst s (afterLoose p a cs s)
   unfolding afterLoose planUnits applyAll Sure ClearedFirst
   first-cleared r a cs (refused n) h = λ b. inl (ap (λ (us : List UnitStore). applyAll us s) (loosely-all (epochs s []) a cs (rw (epochs-whole s []) (omega arith)) ∙ epochs-whole s []))
   first-cleared r a cs (units us) h = held-cut (ClearedFirst s) (λ (t : List ℕ). Unit {0}) (epochs s us) s (λ b. inl refl) (h .1) a cs
 
-  by-repair : (r : Request) (o : Outcome) (t : List ℕ) → Ok (geo s) (code s) (mem (clusterSize s) s) t → Shots backing s (fs backing start s k) t → ExactBy backing s (fs backing start s k) r o t → MendedBy backing r o start t
+  pub by-repair : (r : Request) (o : Outcome) (t : List ℕ) → Ok (geo s) (code s) (mem (clusterSize s) s) t → Shots backing s (fs backing start s k) t → ExactBy backing s (fs backing start s k) r o t → MendedBy backing r o start t
   unfolding MendedBy ExactBy Exact
   by-repair (write x d) o t q sh h = tt
   by-repair (discard g) o t q sh h = tt
@@ -238,7 +243,7 @@ module _ (backing start s : List ℕ) (k : Good backing start s) where
   by-repair (repair n) (Stopped u) t q sh h = tt
   by-repair (repair n) (Finished u) t q sh h = mended backing start t (next-good backing start s k t q sh) (next-exact backing start s k t q h)
 
-  step : Bytes backing → Good backing start start → (c : Call) (picks : List Bool) → BytesOf (c .asks)
+  pub step : Bytes backing → Good backing start start → (c : Call) (picks : List Bool) → BytesOf (c .asks)
       → Good backing start (leftLoose backing s c picks)
       × Step backing start s (guestByte backing s 0) c (leftLoose backing s c picks) (guestByte backing (leftLoose backing s c picks) 0)
       × ClearedFirst s (leftLoose backing s c picks)
@@ -296,7 +301,7 @@ healthy-check backing s h = go (judge backing s) h
     go (suc j) h = absurd h
     go zero h = (refl, subst Healthy (if-no (ltb (2 * clusters s) (2 * clusters s)) (NotChecked 15) (verdict s) (le-ltb (2 * clusters s) (2 * clusters s) (le-refl (2 * clusters s)))) h)
 
-start-good : (backing s : List ℕ) → Bytes s → Healthy (check backing s (2 * clusters s)) → Good backing s s
+pub start-good : (backing s : List ℕ) → Bytes s → Healthy (check backing s (2 * clusters s)) → Good backing s s
 start-good backing s by h =
     let e = healthy-check backing s h in
     record { judged = e .0; bytes = by; sound = healthy-sound s (judge-facts backing s (e .0)) by (e .1); one-size = refl; one-C = refl; one-N = refl; one-length = refl; one-roots = refl; one-reach = λ t l. refl; shots = λ n y l h. refl }
