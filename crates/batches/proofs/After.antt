@@ -1,19 +1,19 @@
 -- What the guest reads once the entries of a batch are stored: what it reads in memory. Assumes nothing.
-use mathlib.Core.Path.{_≡_, refl, sym, _∙_}
+use mathlib.Core.Path.{_≡_, sym, _∙_}
 use mathlib.Core.Logic.{_≢_}
 use mathlib.Core.Bool.{Bool}
 use mathlib.Core.List.{List}
-use Prim.Native.Nat.{ℕ, _≤_, _<_}
+use Prim.Native.Nat.{ℕ, _<_}
 use native.Mathlib.Omega.{arith}
-use Rattle.cuts.proofs.Refs.{fix-dat}
 use Rattle.cuts.proofs.Cell.{mem}
-use Rattle.cuts.proofs.Meta.{Geo, GeoOk, Codec, blk, fix, tab, dat, Keep, fix-blk, blk-0}
-use Rattle.cuts.proofs.Step.{gread, gread-keep, fix-one}
+use Rattle.cuts.proofs.Meta.{Geo, GeoOk, Codec, blk, dat, Keep}
+use Rattle.cuts.proofs.Step.{gread, gread-keep}
 use Rattle.cuts.proofs.Run.{Store, applyAll, picked}
 use Rattle.cuts.proofs.Call.{Ok}
 use Rattle.cuts.proofs.Write.{keep-trans}
 use Rattle.batches.proofs.Mixture.{Use}
 use Rattle.batches.proofs.Lists.{Agree, all-whole, all-apart, each-map, picked-each}
+use Rattle.batches.proofs.Order.{data-aside}
 use Rattle.batches.proofs.Planned.{Planned, Settled, lateImage, late-keep, late-agree, lowers-fit, lowers-apart, cut-after, blk-eq}
 
 module _ (g : Geo) (K : Codec) (ok : GeoOk g K) (m0 : ℕ → ℕ → ℕ) (img : List ℕ) (k0 : Ok g K m0 img) (role : ℕ → Use) (dead : ℕ → Type 0)
@@ -31,9 +31,7 @@ module _ (g : Geo) (K : Codec) (ok : GeoOk g K) (m0 : ℕ → ℕ → ℕ) (img 
   data-block : (i j : ℕ) → i < g .L → j < g .E → (b : ℕ) → b < g .B → dat g K x i j ≢ blk g (mem (g .C) img) b
   data-block i j iL jE b h e =
       let w : blk g x b ≡ blk g (mem (g .C) img) b = blk-eq g x (mem (g .C) img) b (p .mix .rts b (omega (arith, ok .rtfit))) in
-      let n : 1 ≤ fix g x (blk g x b) = fix-blk g x (blk g x b) b h refl in
-      fix-dat (g .L) (g .E) (fix g x) (tab g K x) (dat g K x) (blk g x b) i j iL jE
-      (blk-0 g x (blk g x b) b h (fix-one g K ok x (p .fine .sound) _ (p .fine .sound .blkin b h)) refl) (p .fine .sound .inv .fixed _ (p .fine .sound .blkin b h) n) n (w ∙ sym e)
+      data-aside g K ok m0 s (p .fine) i j iL jE b h (w ∙ sym e)
 
   data-agree : (i j : ℕ) → i < g .L → j < g .E → Agree (g .C) (g .N) (dat g K x i j) cut s
   data-agree i j iL jE o h =

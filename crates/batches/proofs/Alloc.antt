@@ -90,7 +90,7 @@ module _ (g : Geo) (K : Codec) (ok : GeoOk g K) (m0 : ℕ → ℕ → ℕ) (img 
   known₃ : Known g K past (mem (g .C) s₃) dead i j (K .mk c)
   known₃ = rw same at (enter-known g K ok m0 img k0 past given dead _ _ _ s₂ plan₂ i j (K .mk c) iL jE (ok .laws .mk-lt c cN) some₂ alone₂ put plain none₂ (rw same now))
 
-  hidden : (y : Dec (tab g K m i ≡ 0)) → Each (Hidden g K ok m0 img) (((countStore g m c 1 ∷ []) ++ fill c 0 A) ++ before y u)
+  pub hidden : (y : Dec (tab g K m i ≡ 0)) → Each (Hidden g K ok m0 img) (((countStore g m c 1 ∷ []) ++ fill c 0 A) ++ before y u)
   hidden y =
       each-append
       (also (counted c 1 cN (one-fits g K ok m0) (omega arith) (omega (arith, z₀))) (hidden-fill g K ok m0 img k0 past c 0 A cN lA smA z₀))
@@ -99,7 +99,7 @@ module _ (g : Geo) (K : Codec) (ok : GeoOk g K) (m0 : ℕ → ℕ → ℕ) (img 
       z₀ : refsOf g K m c ≡ 0
       z₀ = no-refs₀ g K ok m0 img k0 role dead r l f s p c (datum i j) (used-datum i j) noT A cN zeroed spared lA smA
 
-  was-table : (t a : ℕ) → given t ≡ table a → Dec (t ≡ c) → role t ≡ table a
+  pub was-table : (t a : ℕ) → given t ≡ table a → Dec (t ≡ c) → role t ≡ table a
   was-table t a e (yes h) = absurd (omega (arith, ap kind (sym (ap given h ∙ assign-same role c (datum i j)) ∙ e)))
   was-table t a e (no h) = sym (assign-other role c (datum i j) t h) ∙ e
 

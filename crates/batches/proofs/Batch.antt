@@ -23,11 +23,7 @@ module _ (g : Geo) (K : Codec) (ok : GeoOk g K) (m0 : ℕ → ℕ → ℕ) (img 
   m = mem (g .C) img
 
   -- data of the first image are overwritten in place, without a mark over them
-  pub record Visible (us : List Store) : Type 0 where
-    pub i : ℕ
-    pub j : ℕ
-    pub o : ℕ
-    pub bs : List ℕ
+  pub record Visible (i j o : ℕ) (bs : List ℕ) (us : List Store) : Type 0 where
     pub is : us ≡ fill (dat g K m i j) o bs
     pub iL : i < g .L
     pub jE : j < g .E
@@ -42,7 +38,7 @@ module _ (g : Geo) (K : Codec) (ok : GeoOk g K) (m0 : ℕ → ℕ → ℕ) (img 
     pub step : Step g K ok m0 img k0 role role′ dead dead′ r l f s s′
     pub knows : (i j v : ℕ) → i < g .L → j < g .E → K .clus v < g .N → Known g K past (mem (g .C) s) dead i j v → Known g K past (mem (g .C) s′) dead′ i j v
     pub written : Each (Written g K ok m0 img k0 role′ (Known g K past (mem (g .C) s′) dead′)) l
-    pub early : Each (Hidden g K ok m0 img) r ⊎ Visible r
+    pub early : Each (Hidden g K ok m0 img) r ⊎ ((i j o : ℕ) × (bs : List ℕ) × Visible i j o bs r)
     pub linked : (t i : ℕ) → t < g .N → role′ t ≡ table i → (role t ≡ table i) ⊎ (tab g K (mem (g .C) s′) i ≡ t)
 
   -- the calls so far

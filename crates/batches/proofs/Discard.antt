@@ -9,11 +9,11 @@ use Rattle.cuts.proofs.Cell.{mem}
 use Rattle.cuts.proofs.Meta.{Geo, GeoOk, Codec, cnt, tab, dat, refsOf}
 use Rattle.cuts.proofs.Step.{dat-in}
 use Rattle.cuts.proofs.Run.{Store, apply, each-append, none}
-use Rattle.cuts.proofs.Call.{Ok, countStore, entryStore, cnt-small}
+use Rattle.cuts.proofs.Call.{Ok, SameGuest, countStore, entryStore, cnt-small}
 use Rattle.batches.proofs.Mixture.{Use, Put}
 use Rattle.batches.proofs.Planned.{Planned}
 use Rattle.batches.proofs.Extend.{extend}
-use Rattle.batches.proofs.Steps.{before, among, entry-moved}
+use Rattle.batches.proofs.Steps.{before, among, entry-moved, set-count}
 use Rattle.batches.proofs.Discards.{cleared, alive, unmark-call, discard-call}
 use Rattle.batches.proofs.Known.{Known}
 use Rattle.batches.proofs.Knows.{knows-fall}
@@ -87,6 +87,11 @@ module _ (g : Geo) (K : Codec) (ok : GeoOk g K) (m0 : ℕ → ℕ → ℕ) (img 
           one d,
           p .fine .sound .inv .covered c cN,
         )
+
+    -- the guest does not see the count
+    pub silent : SameGuest g K s₁ s₂
+    unfolding SameGuest
+    silent = set-count g K ok m0 img k0 role dead _ _ _ s₁ plan₁ c v₁ cN (omega (arith, cnt-small g K ok m0 x c)) covers .reads
 
     knows₂ : (a b w : ℕ) → a < g .L → b < g .E → K .clus w < g .N → Known g K past (mem (g .C) s₁) dead a b w → Known g K past (mem (g .C) s₂) (λ n. dead n ⊎ (n ≡ c)) a b w
     knows₂ = knows-fall g K ok m0 img k0 role dead _ _ _ s₁ plan₁ past c v₁ cN (omega (arith, cnt-small g K ok m0 x c)) covers

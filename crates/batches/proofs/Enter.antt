@@ -1,20 +1,18 @@
 -- An entry that a call of a batch stores: what stays known, what is known of its value, and that the guest does not see it before the entries.
 -- Assumes nothing.
 use mathlib.Core.Path.{_≡_, sym, ap, _∙_}
-use mathlib.Core.Logic.{_⊎_, inl, inr, _≢_}
+use mathlib.Core.Logic.{_≢_}
 use mathlib.Core.List.{List}
-use Prim.Native.Nat.{ℕ, _+_, _*_, _^_, _≤_, _<_}
-use native.Mathlib.Omega.{arith}
-use lib.ListN.{length}
-use Rattle.cuts.proofs.Refs.{hit-self, refs-tab}
-use Rattle.cuts.proofs.Cell.{enc, length-enc, small-enc, Stored, mem}
-use Rattle.cuts.proofs.Meta.{Geo, GeoOk, Codec, l1, l2, fix, tab, dat, refsOf}
-use Rattle.cuts.proofs.Step.{tab-in, entry-tab, entry-new}
+use Prim.Native.Nat.{ℕ, _*_, _^_, _≤_, _<_}
+use Rattle.cuts.proofs.Cell.{enc, small-enc, Stored, mem}
+use Rattle.cuts.proofs.Meta.{Geo, GeoOk, Codec, l2, tab, dat, refsOf}
+use Rattle.cuts.proofs.Step.{entry-tab, entry-new}
 use Rattle.cuts.proofs.Run.{Store, apply, Each, none, also}
-use Rattle.cuts.proofs.Call.{Ok, entryStore, next-small, next-stored}
-use Rattle.batches.proofs.Mixture.{linked-free, Use, Linked, Put, mix-tab}
-use Rattle.batches.proofs.Planned.{Planned, tab-eq}
-use Rattle.batches.proofs.Places.{one-before}
+use Rattle.cuts.proofs.Call.{Ok, entryStore}
+use Rattle.batches.proofs.Mixture.{mix-free, Use, Put}
+use Rattle.batches.proofs.Stores.{Laid, laid-entry}
+use Rattle.batches.proofs.Planned.{Planned}
+use Rattle.batches.proofs.Places.{one-table}
 use Rattle.batches.proofs.Steps.{before, among}
 use Rattle.batches.proofs.Known.{Known, known-now, knows-entry}
 use Rattle.batches.proofs.Hidden.{Hidden, unnamed}
@@ -33,19 +31,16 @@ module _ (g : Geo) (K : Codec) (ok : GeoOk g K) (m0 : ℕ → ℕ → ℕ) (img 
   abbrev s′ : List ℕ
   s′ = apply (g .C) (entryStore g (tab g K x i) j v) s
 
-  tN : tab g K x i < g .N
-  tN = tab-in g K ok x (p .fine .sound) i iL
-
-  fits : 8 * j + length (enc 8 v) ≤ g .C
-  fits = omega (arith, ok .c8, length-enc 8 v)
+  lay : Laid g s (tab g K x i) (8 * j) v
+  lay = laid-entry g K ok m0 s (p .fine) i j v iL jE
 
   sm : (k o : ℕ) → mem (g .C) s′ k o < 256
   unfolding apply entryStore
-  sm = next-small g K ok m0 s (p .fine) (tab g K x i) (8 * j) (enc 8 v) tN fits (small-enc 8 v)
+  sm = lay .small
 
   st : Stored (g .C) x (mem (g .C) s′) (tab g K x i) (8 * j) (enc 8 v)
   unfolding apply entryStore
-  st = next-stored g K ok m0 s (p .fine) (tab g K x i) (8 * j) (enc 8 v) tN fits (small-enc 8 v)
+  st = lay .stored
 
   pub enter-knows : (a b w : ℕ) → a < g .L → b < g .E → K .clus w < g .N → Known g K past x dead a b w
       → (K .flag w ≡ 0 → K .clus w ≢ 0 → K .clus w ≡ K .clus v → K .clus v ≡ dat g K x i j) → Known g K past (mem (g .C) s′) dead a b w
@@ -63,16 +58,9 @@ module _ (g : Geo) (K : Codec) (ok : GeoOk g K) (m0 : ℕ → ℕ → ℕ) (img 
 
   pub enter-written : (Q : ℕ → ℕ → ℕ → Type 0) → Q i j v → (y : Dec (tab g K m i ≡ 0)) → Each (Written g K ok m0 img k0 role Q) (among y (entryStore g (tab g K x i) j v))
   enter-written Q w (yes z) = none
-  enter-written Q w (no d) =
-      let e : tab g K x i ≡ tab g K m i = mix-tab g K ok m x role (k0 .sound) (p .mix) i iL d .1 in
-      let h : 1 ≤ refsOf g K m (tab g K m i) = omega (arith, refs-tab (g .L) (g .E) (fix g m) (tab g K m) (dat g K m) (tab g K m i) i iL, hit-self (tab g K m i) d) in
-      rw e (also (writes i j v iL jE lv d (one-before g K ok m0 img k0 role x (p .mix) (tab g K m i) h (rw e at alone)) q w) none)
+  enter-written Q w (no d) = let e = one-table g K ok m0 img k0 role x (p .mix) i iL d alone in rw (e .0) (also (writes i j v iL jE lv d (e .1) q w) none)
 
   pub enter-early : (y : Dec (tab g K m i ≡ 0)) → Each (Hidden g K ok m0 img) (before y (entryStore g (tab g K x i) j v))
   unfolding entryStore
   enter-early (no d) = none
-  enter-early (yes z) = also (unnamed (tab g K x i) (8 * j) (enc 8 v) tN fits (small-enc 8 v) (go (p .mix .l1s i iL))) none
-    where
-      go : (l1 g x i ≡ l1 g m i) ⊎ Linked g K m role i (l1 g x i) → refsOf g K m (tab g K x i) ≡ 0
-      go (inl e) = absurd (some (tab-eq g K x m i e ∙ z))
-      go (inr k) = linked-free g K m role x i k
+  enter-early (yes z) = also (unnamed (tab g K x i) (8 * j) (enc 8 v) (lay .in-image) (lay .in-cluster) (small-enc 8 v) (mix-free g K ok m x role (k0 .sound) (p .mix) i iL z some)) none

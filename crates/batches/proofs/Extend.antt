@@ -1,5 +1,5 @@
 -- One more call of a batch: more uses of clusters, and its units after those of the calls before it. Assumes nothing.
-use mathlib.Core.Path.{_≡_, refl, sym, ap, _∙_}
+use mathlib.Core.Path.{_≡_, sym, ap, _∙_}
 use mathlib.Core.Logic.{_⊎_, inl, inr, _≢_}
 use mathlib.Core.List.{List, [], _∷_, _++_}
 use Prim.Native.Nat.{ℕ, _≤_, _<_}
@@ -9,7 +9,7 @@ use Rattle.cuts.proofs.Meta.{Geo, GeoOk, Codec, cnt, l1, l2, tab, refsOf}
 use Rattle.cuts.proofs.Run.{Store, applyAll, apply-append, Each, each-append}
 use Rattle.cuts.proofs.Step.{free-not-0}
 use Rattle.cuts.proofs.Call.{Ok}
-use Rattle.batches.proofs.Mixture.{Use, unused, table, datum, used-table, used-datum, Linked, Place, Put, Old, Mixture}
+use Rattle.batches.proofs.Mixture.{Use, unused, table, datum, used-table, used-datum, Linked, Place, Put, Old, Mixture, use-or}
 use Rattle.batches.proofs.Prepared.{Ready, Raises, here, later}
 use Rattle.batches.proofs.Joined.{Linking, enters, links}
 use Rattle.batches.proofs.Lists.{Whole, all-whole, each-map, Merge, empty, left, right}
@@ -143,11 +143,6 @@ module _ (g : Geo) (K : Codec) (ok : GeoOk g K) (m0 : ℕ → ℕ → ℕ) (img 
     still-lowers : (u : Store) → Lowers g K ok m0 img k0 dead s u → Lowers g K ok m0 img k0 dead′ s′ u
     still-lowers u (lowers c v h lv d n) = lowers c v h lv (q .dying c d) (omega (arith, n, q .fewer c h d))
 
-    was : (c : ℕ) → (u : Use) → role c ≡ u → (u ≡ unused) ⊎ (role c ≢ unused)
-    was c unused e = inl refl
-    was c (table i) e = inr (λ z. used-table i (sym e ∙ z))
-    was c (datum i j) e = inr (λ z. used-datum i j (sym e ∙ z))
-
     pub extend : Planned g K ok m0 img k0 role′ dead′ (r ++ r′) (l ++ l′) (f ++ f′) s′
     extend =
         record {
@@ -161,9 +156,9 @@ module _ (g : Geo) (K : Codec) (ok : GeoOk g K) (m0 : ℕ → ℕ → ℕ) (img 
           ready = each-append (p .ready) (q .ready);
           linking = each-append (each-map (grow-linking role role′ (q .grows)) (p .linking)) (q .linking);
           falling = each-append (each-map still-lowers (p .falling)) (q .falling);
-          free = λ c h d. frees c h d (was c (role c) refl);
-          raise = λ c h d. raises c h d (was c (role c) refl);
-          bare = λ c h d. bares c h d (was c (role c) refl);
+          free = λ c h d. frees c h d (use-or (role c));
+          raise = λ c h d. raises c h d (use-or (role c));
+          bare = λ c h d. bares c h d (use-or (role c));
           tables = q .tables;
           order = λ c h. rw (apply-append (g .C) r r′ img, apply-append (g .C) f f′ (applyAll (g .C) r′ (applyAll (g .C) r img)))
               (turned dead dead′ r′ f f′ (applyAll (g .C) r img) s s′ c h (all-whole (g .C) (g .N) r img (k0 .len)) (p .fine .len) (q .touch) (each-map (lowers-touch dead s) (p .falling)) (each-map (lowers-touch dead′ s′) (q .falling)) (p .order c h) (q .order c h));
@@ -191,11 +186,6 @@ module _ (g : Geo) (K : Codec) (ok : GeoOk g K) (m0 : ℕ → ℕ → ℕ) (img 
     later-lowers : (u : Store) → Lowers g K ok m0 img k0 dead′ s′ u → Lowers g K ok m0 img k0 dead″ s″ u
     later-lowers u (lowers c v h lv d n) = lowers c v h lv (q .dying c d) (omega (arith, n, q .fewer c h d))
 
-    had : (c : ℕ) → (u : Use) → role′ c ≡ u → (role′ c ≡ unused) ⊎ (role′ c ≢ unused)
-    had c unused e = inl e
-    had c (table i) e = inr (λ z. used-table i (sym e ∙ z))
-    had c (datum i j) e = inr (λ z. used-datum i j (sym e ∙ z))
-
     pub compose : Step role role″ dead dead″ (r ++ r′) (l ++ l′) (f ++ f′) s s″
     compose =
         record {
@@ -212,7 +202,7 @@ module _ (g : Geo) (K : Codec) (ok : GeoOk g K) (m0 : ℕ → ℕ → ℕ) (img 
           linking = each-append (each-map (grow-linking role′ role″ (q .grows)) (p .linking)) (q .linking);
           falling = each-append (each-map later-lowers (p .falling)) (q .falling);
           fewer = λ c h d. omega (arith, q .fewer c h (p .dying c d), p .fewer c h d);
-          taken = λ c h e d. took c h e d (had c (role′ c) refl);
+          taken = λ c h e d. took c h e d (use-or (role′ c));
           tables = q .tables;
           touch = each-append (p .touch) (each-map (touch-less (λ c d z. d (p .dying c z))) (q .touch));
           order = λ c h. rw (apply-append (g .C) r r′ s, apply-append (g .C) f f′ (applyAll (g .C) r′ (applyAll (g .C) r s)))

@@ -10,7 +10,7 @@ use Rattle.cuts.proofs.Step.{gread}
 use Rattle.cuts.proofs.Run.{Store, applyAll, picked}
 use Rattle.cuts.proofs.Call.{Ok}
 use Rattle.batches.proofs.Mixture.{Use}
-use Rattle.batches.proofs.Planned.{middleImage, lateImage, cut-before, cut-among, cut-after}
+use Rattle.batches.proofs.Planned.{middleImage, lateImage, cut-among, cut-after}
 use Rattle.batches.proofs.Batch.{Batch}
 use Rattle.batches.proofs.Shown.{reads-among}
 use Rattle.batches.proofs.After.{reads-after}
@@ -18,10 +18,6 @@ use Rattle.batches.proofs.Stored.{whole-stored}
 
 module _ (g : Geo) (K : Codec) (ok : GeoOk g K) (m0 : ℕ → ℕ → ℕ) (img : List ℕ) (k0 : Ok g K m0 img) (past : (ℕ → ℕ → ℕ) → Type 0) (role : ℕ → Use) (dead : ℕ → Type 0)
     (r l f : List Store) (s : List ℕ) (b : Batch g K ok m0 img k0 past role dead r l f s) where
-  -- before the entries: the tables are the first image's
-  pub held-before : (cs : List Bool) → Ok g K m0 (applyAll (g .C) (picked cs r) img)
-  held-before cs = cut-before g K ok m0 img k0 role dead r l f s (b .planned) (b .settled) cs .fine
-
   -- among them
   abbrev pub middle : List ℕ
   middle = middleImage g K ok m0 img k0 role dead r l f s (b .planned) (b .settled)

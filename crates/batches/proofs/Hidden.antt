@@ -1,5 +1,5 @@
--- Units that the guest does not see before the entries of a batch are stored: counts, bytes of clusters to which nothing refers, and bytes under a zero
--- mark of the first image. Assumes nothing.
+-- Units that the guest does not see before the entries of a batch are stored: counts, bytes of clusters to which nothing refers, bytes under a zero
+-- mark of the first image, and idle bytes of the header. Assumes nothing.
 use mathlib.Core.Path.{_≡_, refl, sym, ap, _∙_}
 use mathlib.Core.Logic.{_⊎_, inl, inr, _≢_}
 use mathlib.Core.Bool.{Bool}
@@ -13,7 +13,8 @@ use Rattle.cuts.proofs.Step.{gread, dat-in, data-step, pair-or}
 use Rattle.cuts.proofs.Run.{Store, apply, applyAll, picked, Each, kept}
 use Rattle.cuts.proofs.Call.{countStore, SameGuest, next-small, next-stored, next-free}
 use Rattle.cuts.proofs.Write.{gread-marked}
-use Rattle.batches.proofs.Prepared.{Prepared, Ready, counts, spare, inside, count-kept, ready-keeps}
+use Rattle.cuts.proofs.Idle.{idle-store}
+use Rattle.batches.proofs.Prepared.{Prepared, Ready, counts, spare, inside, idles, count-kept, ready-keeps}
 use Rattle.batches.proofs.Lists.{each-map}
 
 module _ (g : Geo) (K : Codec) (ok : GeoOk g K) (m0 : ℕ → ℕ → ℕ) (img : List ℕ) where
@@ -23,11 +24,13 @@ module _ (g : Geo) (K : Codec) (ok : GeoOk g K) (m0 : ℕ → ℕ → ℕ) (img 
     marked : (i j o : ℕ) (bs : List ℕ) → i < g .L → j < g .E → o + length bs ≤ g .C → Small bs
         → dat g K (mem (g .C) img) i j ≢ 0 → refsOf g K (mem (g .C) img) (dat g K (mem (g .C) img) i j) ≤ 1 → mark g K (mem (g .C) img) i j ≢ 0
         → Hidden (record { w = dat g K (mem (g .C) img) i j; o = o; bs = λ f. bs })
+    unread : (o : ℕ) (bs : List ℕ) → g .idle ≤ o → o + length bs ≤ g .busy → Small bs → Hidden (record { w = 0; o = o; bs = λ f. bs })
 
   pub hidden-ready : (u : Store) → Hidden u → Ready g K ok m0 img u
   hidden-ready u (counted c v l lv o h) = counts c v l lv o h
   hidden-ready u (unnamed w o bs l h q z) = spare w o bs l h q z
   hidden-ready u (marked i j o bs l n h q d one f) = inside i j o bs l n h q d one
+  hidden-ready u (unread o bs a b q) = idles o bs a b q
 
   -- bytes under a mark
   under-mark : (s : List ℕ) → Prepared g K ok m0 img s → (i j o : ℕ) (bs : List ℕ) → i < g .L → j < g .E → o + length bs ≤ g .C → Small bs
@@ -82,6 +85,7 @@ module _ (g : Geo) (K : Codec) (ok : GeoOk g K) (m0 : ℕ → ℕ → ℕ) (img 
   hidden-same u (counted c v l lv o h) s p a b y = count-kept g K ok m0 img s p c v l lv h .reads a b y
   hidden-same u (unnamed w o bs l h q z) s p a b y = next-free g K ok m0 s (p .fine) w o bs l h q (keep-refs g K ok (mem (g .C) img) (mem (g .C) s) (p .keep) w ∙ z) .1 .reads a b y
   hidden-same u (marked i j o bs l n h q d one f) s p a b y = under-mark s p i j o bs l n h q d one f a b y
+  hidden-same u (unread o bs from to q) s p a b y = idle-store g K ok m0 s (p .fine) o bs from to q .1 .reads a b y
 
   -- whichever of them are stored
   pub hidden-cut : (start : List ℕ) → Prepared g K ok m0 img start → {us : List Store} → Each Hidden us → (cs : List Bool)

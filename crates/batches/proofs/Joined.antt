@@ -3,21 +3,19 @@ use mathlib.Core.Path.{_≡_, refl, sym, ap, _∙_}
 use mathlib.Core.Logic.{_≢_}
 use mathlib.Core.Bool.{Bool}
 use mathlib.Core.List.{List}
-use Prim.Native.Nat.{ℕ, _+_, _*_, _/_, _%_, _^_, _≤_, _<_}
-use native.Mathlib.Nat.{mod-lt}
+use Prim.Native.Nat.{ℕ, _+_, _*_, _^_, _≤_, _<_}
 use native.Mathlib.Decide.{decLt}
 use native.Mathlib.Omega.{arith}
-use lib.ListN.{length}
 use lib.Seq.{sets}
-use Rattle.cuts.proofs.Refs.{hit-self, refs-fix, refs-tab, tab-fix}
-use Rattle.cuts.proofs.Cell.{enc, length-enc, small-enc, Small, Stored, mem}
-use Rattle.cuts.proofs.Meta.{Geo, GeoOk, Codec, cnt, row, col, Has, l2, fix, tab, dat, refsOf, l2-off, fix-l1, tree-in, row-in, row-N}
-use Rattle.cuts.proofs.Step.{tab-in, free-not-0, entry-cnt, at-not-0, link-away, link-cnt}
+use Rattle.cuts.proofs.Refs.{tab-fix}
+use Rattle.cuts.proofs.Cell.{enc, small-enc, Small, Stored, mem}
+use Rattle.cuts.proofs.Meta.{Geo, GeoOk, Codec, cnt, row, col, Has, l2, fix, tab, dat, refsOf, l2-off, tree-in}
+use Rattle.cuts.proofs.Step.{free-not-0, entry-cnt, at-not-0, link-away, link-cnt}
 use Rattle.cuts.proofs.Run.{Store, apply, applyAll, picked, Each, none, also, kept}
-use Rattle.cuts.proofs.Call.{Ok, entryStore, linkStore, away, ok-next, next-small, next-stored}
-use Rattle.batches.proofs.Mixture.{Use, unused, table, datum, used-table, used-datum, Put, Mixture, mix-tab, mix-sound, old-refs, new-refs, unused-refs}
+use Rattle.cuts.proofs.Call.{Ok, entryStore, linkStore, away, ok-next}
+use Rattle.batches.proofs.Mixture.{Use, unused, table, datum, used-table, used-datum, Put, Mixture, named-tab, mix-tab, mix-sound, old-refs, new-refs, unused-refs, free-row}
 use Rattle.batches.proofs.Lists.{each-map}
-use Rattle.batches.proofs.Stores.{entry-mixture, link-mixture}
+use Rattle.batches.proofs.Stores.{Laid, laid-entry, laid-link, entry-mixture, link-mixture}
 
 module _ (g : Geo) (K : Codec) (ok : GeoOk g K) (m0 : ℕ → ℕ → ℕ) (img : List ℕ) (k0 : Ok g K m0 img) (role : ℕ → Use) where
   abbrev m : ℕ → ℕ → ℕ
@@ -74,91 +72,66 @@ module _ (g : Geo) (K : Codec) (ok : GeoOk g K) (m0 : ℕ → ℕ → ℕ) (img 
       ones c l n = rw (same c l) (p .ones c l n)
 
   -- ---- one entry of a table of the first image
-  module _ (s : List ℕ) (p : Joined s) (i j v : ℕ) (l : i < g .L) (k : j < g .E) (lv : v < 256 ^ 8) (t : tab g K m i ≢ 0) (one : refsOf g K m (tab g K m i) ≤ 1) (q : Put g K m role i j v) where
+  module _ (s : List ℕ) (p : Joined s) (i : ℕ) (l : i < g .L) (t : tab g K m i ≢ 0) (one : refsOf g K m (tab g K m i) ≤ 1) where
     abbrev x : ℕ → ℕ → ℕ
     x = mem (g .C) s
 
+    -- the table stays, with its one reference
     same-tab : tab g K x i ≡ tab g K m i
     same-tab = mix-tab g K ok m x role (k0 .sound) (p .mix) i l t .1
 
-    some : tab g K x i ≢ 0
-    some z = t (sym same-tab ∙ z)
+    pub tab-some : tab g K x i ≢ 0
+    tab-some z = t (sym same-tab ∙ z)
 
-    named : 1 ≤ refsOf g K m (tab g K m i)
-    named = omega (arith, refs-tab (g .L) (g .E) (fix g m) (tab g K m) (dat g K m) (tab g K m i) i l, hit-self (tab g K m i) t)
+    pub tab-alone : refsOf g K x (tab g K x i) ≤ 1
+    tab-alone = rw same-tab (omega (arith, one, old-refs g K ok m x role (k0 .sound) (p .mix) (tab g K m i) (named-tab g K m i l t)))
 
-    alone : refsOf g K x (tab g K x i) ≤ 1
-    alone = rw same-tab (omega (arith, one, old-refs g K ok m x role (k0 .sound) (p .mix) (tab g K m i) named))
+    module _ (j v : ℕ) (k : j < g .E) (lv : v < 256 ^ 8) (q : Put g K m role i j v) where
+      lay : Laid g s (tab g K x i) (8 * j) v
+      lay = laid-entry g K ok m0 s (p .fine) i j v l k
 
-    tN : tab g K x i < g .N
-    tN = tab-in g K ok x (p .fine .sound) i l
+      abbrev x′ : ℕ → ℕ → ℕ
+      x′ = mem (g .C) (sets s (tab g K x i * g .C + 8 * j) (enc 8 v))
 
-    fits : 8 * j + length (enc 8 v) ≤ g .C
-    fits = omega (arith, ok .c8, length-enc 8 v)
+      enter-mix : Mixture g K m role x′
+      enter-mix = entry-mixture g K ok m role x x′ (p .fine .sound) (p .mix) (lay .small) i j v l k tab-some tab-alone lv q (lay .stored)
 
-    abbrev x′ : ℕ → ℕ → ℕ
-    x′ = mem (g .C) (sets s (tab g K x i * g .C + 8 * j) (enc 8 v))
-
-    sm : (a y : ℕ) → x′ a y < 256
-    sm = next-small g K ok m0 s (p .fine) (tab g K x i) (8 * j) (enc 8 v) tN fits (small-enc 8 v)
-
-    st : Stored (g .C) x x′ (tab g K x i) (8 * j) (enc 8 v)
-    st = next-stored g K ok m0 s (p .fine) (tab g K x i) (8 * j) (enc 8 v) tN fits (small-enc 8 v)
-
-    enter-mix : Mixture g K m role x′
-    enter-mix = entry-mixture g K ok m role x x′ (p .fine .sound) (p .mix) sm i j v l k some alone lv q st
-
-    pub enter : Joined (apply (g .C) (entryStore g (tab g K m i) j v) s)
-    unfolding apply entryStore
-    enter =
-        rw same-tab at
-        (joined s (tab g K x i) (8 * j) (enc 8 v) p some (away g K ok m0 x (tab g K x i) (tab-fix (g .L) (g .E) (fix g x) (tab g K x) (dat g K x) i l some alone)) (small-enc 8 v) st enter-mix
-        (entry-cnt g K ok x (p .fine .sound) x′ sm i j v l k some alone (q .good) lv st)
-        (λ u b h z n. l2-off g K ok x x′ (tab g K x i) (st .cluster) u b n (λ e. omega (arith, named, ap (refsOf g K m) (sym same-tab ∙ sym e), z))))
+      pub enter : Joined (apply (g .C) (entryStore g (tab g K m i) j v) s)
+      unfolding apply entryStore
+      enter =
+          rw same-tab at
+          (joined s (tab g K x i) (8 * j) (enc 8 v) p tab-some (away g K ok m0 x (tab g K x i) (tab-fix (g .L) (g .E) (fix g x) (tab g K x) (dat g K x) i l tab-some tab-alone)) (small-enc 8 v) (lay .stored) enter-mix
+          (entry-cnt g K ok x (p .fine .sound) x′ (lay .small) i j v l k tab-some tab-alone (q .good) lv (lay .stored))
+          (λ u b h z n. l2-off g K ok x x′ (tab g K x i) (lay .stored .cluster) u b n (λ e. omega (arith, named-tab g K m i l t, ap (refsOf g K m) (sym same-tab ∙ sym e), z))))
 
   -- ---- one L1 entry
   module _ (s : List ℕ) (p : Joined s) (i t : ℕ) (l : i < g .L) (hi : Has g i) (tN : t < g .N) (t0 : t ≢ 0) (z : tab g K m i ≡ 0) (act : i < g .M) (free : refsOf g K m t ≡ 0) (used : role t ≡ table i) where
     abbrev y : ℕ → ℕ → ℕ
     y = mem (g .C) s
 
-    lfits : 8 * col g i + length (enc 8 (K .mk t)) ≤ g .C
-    lfits = omega (arith, ok .c8, length-enc 8 (K .mk t), mod-lt (i % g .M) (ok .epos))
+    lay-link : Laid g s (row g i) (8 * col g i) (K .mk t)
+    lay-link = laid-link g K ok m0 s (p .fine) i (K .mk t) l hi
 
     abbrev y′ : ℕ → ℕ → ℕ
     y′ = mem (g .C) (sets s (row g i * g .C + 8 * col g i) (enc 8 (K .mk t)))
 
-    lsm : (a o : ℕ) → y′ a o < 256
-    lsm = next-small g K ok m0 s (p .fine) (row g i) (8 * col g i) (enc 8 (K .mk t)) (row-N g K ok i l hi) lfits (small-enc 8 (K .mk t))
-
-    lst : Stored (g .C) y y′ (row g i) (8 * col g i) (enc 8 (K .mk t))
-    lst = next-stored g K ok m0 s (p .fine) (row g i) (8 * col g i) (enc 8 (K .mk t)) (row-N g K ok i l hi) lfits (small-enc 8 (K .mk t))
-
-    -- a cluster to which nothing referred is none of the L1 table's
-    apart : (u : ℕ) → refsOf g K m u ≡ 0 → u ≢ row g i
-    apart u e f =
-        omega (
-          arith,
-          fix-l1 g m u (i / g .M) (i % g .M / g .E) (omega (arith, tree-in g K ok i l)) (row-in g K ok i l hi) f,
-          refs-fix (g .L) (g .E) (fix g m) (tab g K m) (dat g K m) u,
-        )
-
     kept-l2 : (u b : ℕ) → b < g .E → refsOf g K m u ≡ 0 → l2 g y′ u b ≡ l2 g y u b
-    kept-l2 u b n e = l2-off g K ok y y′ (row g i) (lst .cluster) u b n (apart u e)
+    kept-l2 u b n e = l2-off g K ok y y′ (row g i) (lay-link .stored .cluster) u b n (free-row g K ok m i l hi u e)
 
     link-mix : Mixture g K m role y′
-    link-mix = link-mixture g K ok m role y y′ (p .fine .sound) (p .mix) lsm i t l hi tN t0 z act free used (λ b n. rw (kept-l2 t b n free) (p .filled t i b tN used free n)) lst
+    link-mix = link-mixture g K ok m role y y′ (p .fine .sound) (p .mix) (lay-link .small) i t l hi tN t0 z act free used (λ b n. rw (kept-l2 t b n free) (p .filled t i b tN used free n)) (lay-link .stored)
 
     pub link : Joined (apply (g .C) (linkStore g i (K .mk t)) s)
     unfolding apply linkStore
     link =
-        joined s (row g i) (8 * col g i) (enc 8 (K .mk t)) p (at-not-0 g K ok y (p .fine .sound) y′ lsm i t l hi tN lst)
-        (λ q b. link-away g K ok y (p .fine .sound) y′ lsm i t l hi tN lst (g .T) q (omega arith) b (λ e. omega (arith, tree-in g K ok i l, e)))
-        (small-enc 8 (K .mk t)) lst link-mix
-        (link-cnt g K ok y (p .fine .sound) y′ lsm i t l hi tN lst)
+        joined s (row g i) (8 * col g i) (enc 8 (K .mk t)) p (at-not-0 g K ok y (p .fine .sound) y′ (lay-link .small) i t l hi tN (lay-link .stored))
+        (λ q b. link-away g K ok y (p .fine .sound) y′ (lay-link .small) i t l hi tN (lay-link .stored) (g .T) q (omega arith) b (λ e. omega (arith, tree-in g K ok i l, e)))
+        (small-enc 8 (K .mk t)) (lay-link .stored) link-mix
+        (link-cnt g K ok y (p .fine .sound) y′ (lay-link .small) i t l hi tN (lay-link .stored))
         (λ u b h e n. kept-l2 u b n e)
 
   pub linking-keeps : (u : Store) → Linking u → (s : List ℕ) → Joined s → Joined (apply (g .C) u s)
-  linking-keeps u (enters i j v l k lv t one q) s p = enter s p i j v l k lv t one q
+  linking-keeps u (enters i j v l k lv t one q) s p = enter s p i l t one j v k lv q
   linking-keeps u (links i t l hi tN t0 z act free used) s p = link s p i t l hi tN t0 z act free used
 
   pub linking-all : {us : List Store} → Each Linking us → (s : List ℕ) → Joined s → Joined (applyAll (g .C) us s)

@@ -2,14 +2,15 @@
 -- it. A place that is no longer named is not stored into again. Assumes nothing.
 use mathlib.Core.Path.{_≡_, refl, sym, ap, _∙_, subst}
 use mathlib.Core.Logic.{_⊎_, inl, inr, _≢_}
-use Prim.Native.Nat.{ℕ, zero, suc, _+_, _*_, _/_, _%_, _^_, _≤_, _<_}
+use Prim.Native.Nat.{ℕ, zero, suc, _+_, _*_, _^_, _≤_, _<_}
 use native.Mathlib.Nat.{suc-ne-zero}
 use native.Mathlib.Omega.{arith}
 use native.Mathlib.Decide.{ℕ-discrete, decLt}
-use Rattle.cuts.proofs.Refs.{hit, hit-self, hit-other, refs-fix, refs-dat, refs-tab, fix-dat, tab-dat}
+use Rattle.cuts.proofs.Refs.{hit, hit-self, hit-other, refs-fix, refs-dat, fix-dat, tab-dat}
 use Rattle.cuts.proofs.Cell.{enc, Stored}
-use Rattle.cuts.proofs.Meta.{Geo, GeoOk, Codec, cnt, row, col, Has, l2, fix, tab, dat, refsOf, Sound, Keep, dat-some, mark-some, keep-tab, keep-refs, fix-l1, tree-in, row-in, row-N}
+use Rattle.cuts.proofs.Meta.{Geo, GeoOk, Codec, cnt, row, col, Has, l2, fix, tab, dat, refsOf, Sound, Keep, dat-some, mark-some, keep-tab, keep-refs, row-N}
 use Rattle.cuts.proofs.Step.{shown, gread, pair-or, dat-in, entry-tab, entry-cnt, entry-l2, entry-new, entry-refs, at-not-0, link-cnt, link-tab, link-l2}
+use Rattle.batches.proofs.Mixture.{named-tab, named-dat, row-fix}
 
 -- only a place without a mark shows its byte
 pub shown-frame : (d f b b′ : ℕ) → (f ≡ 0 → d ≢ 0 → b ≡ b′) → shown d f b ≡ shown d f b′
@@ -112,7 +113,7 @@ module _ (g : Geo) (K : Codec) (ok : GeoOk g K) (past : (ℕ → ℕ → ℕ) �
   knows-place k now a b aL bE d one bytes same i j v l n vN w = go (ℕ-discrete (K .clus v) (dat g K x a b)) (ℕ-discrete (K .flag v) 0)
     where
       named : 1 ≤ refsOf g K x (dat g K x a b)
-      named = omega (arith, refs-dat (g .L) (g .E) (fix g x) (tab g K x) (dat g K x) (dat g K x a b) a b aL bE, hit-self (dat g K x a b) d)
+      named = named-dat g K x a b aL bE d
 
       after : (Current g K past x i j v ⊎ Gone g K past x dead v) → Current g K past x′ i j v ⊎ Gone g K past x′ dead v
       after (inl c) = inl (keep-current k i j v l n c)
@@ -192,7 +193,7 @@ module _ (g : Geo) (K : Codec) (ok : GeoOk g K) (past : (ℕ → ℕ → ℕ) �
       where
         away : K .clus v ≢ 0 → Current g K past x i j v ⊎ Gone g K past x dead v → K .clus v ≢ tab g K x a
         away d (inl c) y = tab-dat (g .L) (g .E) (fix g x) (tab g K x) (dat g K x) a i j aL l n some alone (sym y ∙ sym (current-dat i j v c))
-        away d (inr c) y = omega (arith, c .free, ap (refsOf g K x) y, refs-tab (g .L) (g .E) (fix g x) (tab g K x) (dat g K x) (tab g K x a) a aL, hit-self (tab g K x a) some)
+        away d (inr c) y = omega (arith, c .free, ap (refsOf g K x) y, named-tab g K x a aL some)
 
         gone : K .flag v ≡ 0 → K .clus v ≢ 0 → Gone g K past x dead v → Gone g K past x′ dead v
         gone f d c = record { free = go₂ (ℕ-discrete (K .clus v) (K .clus e)); kept = rw (entry-cnt g K ok x sx x′ sm a b e aL bE some alone good le st (K .clus v) vN) (c .kept) }
@@ -216,9 +217,6 @@ module _ (g : Geo) (K : Codec) (ok : GeoOk g K) (past : (ℕ → ℕ → ℕ) �
   -- ---- L1 entry a gets the table t
   module _ (sm : (k o : ℕ) → x′ k o < 256) (a t : ℕ) (aL : a < g .L) (ha : Has g a) (tN : t < g .N) (none : tab g K x a ≡ 0)
       (st : Stored (g .C) x x′ (row g a) (8 * col g a) (enc 8 (K .mk t))) where
-    row-fix : 1 ≤ fix g x (row g a)
-    row-fix = fix-l1 g x (row g a) (a / g .M) (a % g .M / g .E) (omega (arith, tree-in g K ok a aL)) (row-in g K ok a aL ha) refl
-
     pub knows-link : (i j v : ℕ) → i < g .L → j < g .E → K .clus v < g .N → Known g K past x dead i j v
         → (K .flag v ≡ 0 → K .clus v ≢ 0 → refsOf g K x (K .clus v) ≡ 0 → refsOf g K x′ (K .clus v) ≡ 0) → Known g K past x′ dead i j v
     knows-link i j v l n vN w apart = known-frame g K past x x′ dead dead i j v w go
@@ -226,8 +224,8 @@ module _ (g : Geo) (K : Codec) (ok : GeoOk g K) (past : (ℕ → ℕ → ℕ) �
         away : K .clus v ≢ 0 → Current g K past x i j v ⊎ Gone g K past x dead v → K .clus v ≢ row g a
         away d (inl c) y =
             fix-dat (g .L) (g .E) (fix g x) (tab g K x) (dat g K x) (row g a) i j l n (at-not-0 g K ok x sx x′ sm a t aL ha tN st)
-            (sx .inv .fixed (row g a) (row-N g K ok a aL ha) row-fix) row-fix (sym y ∙ sym (current-dat i j v c))
-        away d (inr c) y = omega (arith, c .free, ap (refsOf g K x) y, row-fix, refs-fix (g .L) (g .E) (fix g x) (tab g K x) (dat g K x) (row g a))
+            (sx .inv .fixed (row g a) (row-N g K ok a aL ha) (row-fix g K ok x a aL ha)) (row-fix g K ok x a aL ha) (sym y ∙ sym (current-dat i j v c))
+        away d (inr c) y = omega (arith, c .free, ap (refsOf g K x) y, row-fix g K ok x a aL ha, refs-fix (g .L) (g .E) (fix g x) (tab g K x) (dat g K x) (row g a))
 
         stand : K .flag v ≡ 0 → K .clus v ≢ 0 → Current g K past x i j v ⊎ Gone g K past x dead v → Current g K past x′ i j v ⊎ Gone g K past x′ dead v
         stand f d (inr c) = inr (record { free = apart f d (c .free); kept = rw (link-cnt g K ok x sx x′ sm a t aL ha tN st (K .clus v) vN) (c .kept) })

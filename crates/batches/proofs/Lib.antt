@@ -25,6 +25,7 @@ pub mod After
 pub mod Knows
 pub mod Batch
 pub mod Overwrite
+pub mod Clear
 pub mod Enter
 pub mod Discard
 pub mod Alloc

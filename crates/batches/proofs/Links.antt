@@ -3,23 +3,22 @@ use mathlib.Core.Path.{_≡_, refl, sym, ap, _∙_}
 use mathlib.Core.Logic.{inl, _≢_}
 use mathlib.Core.List.{List, [], _∷_}
 use Prim.Native.Nat.{ℕ, zero, suc, _+_, _*_, _/_, _%_, _≤_, _<_}
-use native.Mathlib.Nat.{mod-lt}
 use native.Mathlib.Decide.{ℕ-discrete}
 use native.Mathlib.Omega.{arith}
 use lib.ListN.{length}
 use lib.Seq.{sets}
 use Rattle.cuts.proofs.Sum.{sumTo, sum-le}
-use Rattle.cuts.proofs.Refs.{hit, hit-other, not-hit, tabs, dats, refs-is, refs-fix}
-use Rattle.cuts.proofs.Cell.{enc, length-enc, small-enc, Small, Stored, mem}
-use Rattle.cuts.proofs.Meta.{Geo, GeoOk, Codec, blk, blk-l1, cnt, row, col, Has, l2, fix, tab, dat, refsOf, Keep, dat-none, dat-some, l2-off, fix-l1, tree-in, row-in, row-N}
+use Rattle.cuts.proofs.Refs.{hit, hit-other, not-hit, tabs, dats, refs-is}
+use Rattle.cuts.proofs.Cell.{enc, length-enc, small-enc, Small, mem}
+use Rattle.cuts.proofs.Meta.{Geo, GeoOk, Codec, blk, blk-l1, cnt, row, col, Has, l2, fix, tab, dat, refsOf, Keep, dat-none, dat-some, l2-off, tree-in, row-in}
 use Rattle.cuts.proofs.Step.{fix-one, fix-same, link-blk, link-cnt, link-tab, link-tab-new, link-l2, Quiet}
 use Rattle.cuts.proofs.Run.{Store, apply, applyAll, fill, apply-fill, Each, none, also}
 use Rattle.cuts.proofs.Write.{small-one}
-use Rattle.cuts.proofs.Call.{Ok, entryStore, linkStore, next-small, next-stored, next-free}
-use Rattle.batches.proofs.Mixture.{Use, table, Put}
+use Rattle.cuts.proofs.Call.{Ok, entryStore, linkStore, next-free}
+use Rattle.batches.proofs.Mixture.{Use, table, Put, free-row}
 use Rattle.batches.proofs.Prepared.{Ready, spare}
 use Rattle.batches.proofs.Joined.{links}
-use Rattle.batches.proofs.Stores.{link-mixture}
+use Rattle.batches.proofs.Stores.{Laid, laid-link, link-mixture}
 use Rattle.batches.proofs.Planned.{Tabled, Planned}
 use Rattle.batches.proofs.Order.{passes, aside-cell, fill-touch, free-aside}
 use Rattle.batches.proofs.Extend.{Step, merge-all-left, merge-all-right}
@@ -95,38 +94,24 @@ module _ (g : Geo) (K : Codec) (ok : GeoOk g K) (m0 : ℕ → ℕ → ℕ) (img 
       (alive : (c : ℕ) → dead c → (c ≢ t) × ((b : ℕ) → b < g .E → c ≢ 0 → c ≢ K .clus (l2 g x t b)))
       (only : (u : ℕ) → u < g .N → role u ≡ table i → u ≡ t) (rest : (u a : ℕ) → u < g .N → role u ≡ table a → a ≢ i → tab g K x a ≡ u)
       (fine : Ok g K m0 (apply (g .C) (linkStore g i (K .mk t)) s)) where
-    fits : 8 * col g i + length (enc 8 (K .mk t)) ≤ g .C
-    fits = omega (arith, ok .c8, length-enc 8 (K .mk t), mod-lt (i % g .M) (ok .epos))
+    lay : Laid g s (row g i) (8 * col g i) (K .mk t)
+    lay = laid-link g K ok m0 s (p .fine) i (K .mk t) iL hi
 
     abbrev x′ : ℕ → ℕ → ℕ
     x′ = mem (g .C) (sets s (row g i * g .C + 8 * col g i) (enc 8 (K .mk t)))
 
-    sm : (a o : ℕ) → x′ a o < 256
-    sm = next-small g K ok m0 s (p .fine) (row g i) (8 * col g i) (enc 8 (K .mk t)) (row-N g K ok i iL hi) fits (small-enc 8 (K .mk t))
-
-    st : Stored (g .C) x x′ (row g i) (8 * col g i) (enc 8 (K .mk t))
-    st = next-stored g K ok m0 s (p .fine) (row g i) (8 * col g i) (enc 8 (K .mk t)) (row-N g K ok i iL hi) fits (small-enc 8 (K .mk t))
-
-    apart : t ≢ row g i
-    apart e =
-        omega (
-          arith,
-          fix-l1 g m t (i / g .M) (i % g .M / g .E) (omega (arith, tree-in g K ok i iL)) (row-in g K ok i iL hi) e,
-          refs-fix (g .L) (g .E) (fix g m) (tab g K m) (dat g K m) t,
-        )
-
     inner : (b : ℕ) → b < g .E → l2 g x′ t b ≡ l2 g x t b
-    inner b n = l2-off g K ok x x′ (row g i) (st .cluster) t b n apart
+    inner b n = l2-off g K ok x x′ (row g i) (lay .stored .cluster) t b n (free-row g K ok m i iL hi t free)
 
     tab-new : tab g K x′ i ≡ t
-    tab-new = link-tab-new g K ok x (p .fine .sound) x′ sm i t iL hi tN st
+    tab-new = link-tab-new g K ok x (p .fine .sound) x′ (lay .small) i t iL hi tN (lay .stored)
 
     tab-same : (a : ℕ) → a < g .L → a ≢ i → tab g K x′ a ≡ tab g K x a
-    tab-same = link-tab g K ok x (p .fine .sound) x′ sm i t iL hi tN st
+    tab-same = link-tab g K ok x (p .fine .sound) x′ (lay .small) i t iL hi tN (lay .stored)
 
     pub less : (c : ℕ) → (c ≢ t) × ((b : ℕ) → b < g .E → c ≢ 0 → c ≢ K .clus (l2 g x t b)) → refsOf g K x′ c ≤ refsOf g K x c
     less c d =
-        fewer-refs g K x x′ c (ap (λ (k : ℕ → ℕ). k c) (fix-same g x x′ (link-blk g K ok x (p .fine .sound) x′ sm i t iL hi tN st)))
+        fewer-refs g K x x′ c (ap (λ (k : ℕ → ℕ). k c) (fix-same g x x′ (link-blk g K ok x (p .fine .sound) x′ (lay .small) i t iL hi tN (lay .stored))))
         (λ a h. first a h (ℕ-discrete a i)) (λ a b h n. second a b h n (ℕ-discrete a i))
       where
         first : (a : ℕ) → a < g .L → Dec (a ≡ i) → hit c (tab g K x′ a) ≤ hit c (tab g K x a)
@@ -148,7 +133,7 @@ module _ (g : Geo) (K : Codec) (ok : GeoOk g K) (m0 : ℕ → ℕ → ℕ) (img 
             same (yes y) = dat-none g K x′ a b (tab-same a h k ∙ y) ∙ sym (dat-none g K x a b y)
             same (no y) =
                 dat-some g K x′ a b (λ w. y (sym (tab-same a h k) ∙ w)) ∙ ap (λ (q : ℕ). K .clus (l2 g x′ q b)) (tab-same a h k)
-                ∙ ap (K .clus) (link-l2 g K ok x (p .fine .sound) x′ sm i t iL hi tN st a b h n) ∙ sym (dat-some g K x a b y)
+                ∙ ap (K .clus) (link-l2 g K ok x (p .fine .sound) x′ (lay .small) i t iL hi tN (lay .stored) a b h n) ∙ sym (dat-some g K x a b y)
 
     row-aside : (b : ℕ) → b < g .B → blk g m b ≢ row g i
     row-aside b h =
@@ -166,7 +151,7 @@ module _ (g : Geo) (K : Codec) (ok : GeoOk g K) (m0 : ℕ → ℕ → ℕ) (img 
           second = merge-all-left _;
           is = refl;
           fine = fine;
-          mix = link-mixture g K ok m role x x′ (p .fine .sound) (p .mix) sm i t iL hi tN t0 old act free used (λ b n. rw (inner b n) (filled b n)) st;
+          mix = link-mixture g K ok m role x x′ (p .fine .sound) (p .mix) (lay .small) i t iL hi tN t0 old act free used (λ b n. rw (inner b n) (filled b n)) (lay .stored);
           ready = none;
           linking = also (links i t iL hi tN t0 old act free used) none;
           falling = none;
@@ -175,8 +160,8 @@ module _ (g : Geo) (K : Codec) (ok : GeoOk g K) (m0 : ℕ → ℕ → ℕ) (img 
           tables = λ u a b e. tabled u a b e (ℕ-discrete a i);
           stays = λ a b d. tab-same a b (λ e. d (ap (tab g K x) e ∙ z));
           touch = none;
-          order = λ a b. sym (aside-cell g K ok m0 img k0 (linkStore g i (K .mk t)) s (record { inN = row-N g K ok i iL hi; inC = λ k. fits; local = λ k k′ e. refl }) (p .fine .len) row-aside a b);
-          counted = λ a b. rw (link-cnt g K ok x (p .fine .sound) x′ sm i t iL hi tN st a b) (p .counted a b);
+          order = λ a b. sym (aside-cell g K ok m0 img k0 (linkStore g i (K .mk t)) s (record { inN = lay .in-image; inC = λ k. lay .in-cluster; local = λ k k′ e. refl }) (p .fine .len) row-aside a b);
+          counted = λ a b. rw (link-cnt g K ok x (p .fine .sound) x′ (lay .small) i t iL hi tN (lay .stored) a b) (p .counted a b);
         }
       where
         tabled : (u a : ℕ) → u < g .N → role u ≡ table a → Dec (a ≡ i) → Tabled g K (sets s (row g i * g .C + 8 * col g i) (enc 8 (K .mk t))) u a

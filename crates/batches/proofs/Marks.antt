@@ -9,7 +9,7 @@ use Rattle.cuts.proofs.Meta.{Geo, GeoOk, Codec, tab, dat, refsOf, Keep, keep-ta
 use Rattle.cuts.proofs.Step.{dat-in}
 use Rattle.cuts.proofs.Run.{Store, apply, applyAll, fill, apply-fill}
 use Rattle.cuts.proofs.Call.{Ok, entryStore}
-use Rattle.batches.proofs.Mixture.{Use, Place, Put}
+use Rattle.batches.proofs.Mixture.{Use, Place, Put, put-new}
 use Rattle.batches.proofs.Prepared.{data-set}
 use Rattle.batches.proofs.Planned.{Planned}
 use Rattle.batches.proofs.Extend.{Step, extend, compose}
@@ -54,15 +54,7 @@ module _ (g : Geo) (K : Codec) (ok : GeoOk g K) (m0 : ℕ → ℕ → ℕ) (img 
   place (new y e) = inr (inr (y, e))
 
   pub value : Put g K m role i j (K .mk c)
-  value =
-      record {
-        active = act;
-        good = ok .laws .mk-good2 c cN d;
-        own = λ y. ok .laws .mk-own c cN;
-        plain = λ y. ok .laws .mk-flag c cN;
-        left = left-of g K ok m0 img k0 role dead r l f s p i j iL jE act some (λ y. one);
-        place = rw mc (place (home g K ok m0 img k0 role x (p .mix) i j iL jE d one));
-      }
+  value = put-new g K ok m role i j c act cN d (left-of g K ok m0 img k0 role dead r l f s p i j iL jE act some (λ y. one)) (place (home g K ok m0 img k0 role x (p .mix) i j iL jE d one))
 
   same : tab g K (mem (g .C) s₁) i ≡ tab g K x i
   same = keep-tab g K ok x (mem (g .C) s₁) keep₁ i iL

@@ -2,13 +2,13 @@
 -- the earlier image and which belongs to that entry alone. Such an image is sound or leaking if its counts cover the references. Assumes nothing.
 use mathlib.Core.Path.{_≡_, refl, sym, ap, _∙_}
 use mathlib.Core.Logic.{_⊎_, inl, inr, _≢_}
-use Prim.Native.Nat.{ℕ, zero, suc, _+_, _*_, _/_, _≤_, _<_}
+use Prim.Native.Nat.{ℕ, zero, suc, _+_, _*_, _/_, _≤_, _<_, _%_}
 use native.Mathlib.Nat.{le-refl}
 use native.Mathlib.Decide.{ℕ-discrete, decLt}
 use native.Mathlib.Omega.{arith}
 use Rattle.cuts.proofs.Sum.{sumTo, sum-cong, sum-le, sum-zero}
-use Rattle.cuts.proofs.Refs.{hit, hit-zero, hit-self, hit-other, hit-le, tabs, dats, refs, refs-is, refs-tab, refs-dat, within, within-is, within-not, treeRefs, tree-refs, Inv, free-fix, free-tab, free-dat}
-use Rattle.cuts.proofs.Meta.{Geo, GeoOk, Codec, rt, blk, cnt, tree, l1, l2, fix, tab, dat, refsOf, Right, Sound, dat-none, dat-some}
+use Rattle.cuts.proofs.Refs.{hit, hit-zero, hit-self, hit-other, hit-le, tabs, dats, refs, refs-is, refs-tab, refs-dat, within, within-is, within-not, treeRefs, tree-refs, Inv, free-fix, free-tab, free-dat, refs-fix}
+use Rattle.cuts.proofs.Meta.{Geo, GeoOk, Codec, rt, blk, cnt, tree, l1, l2, fix, tab, dat, refsOf, Right, Sound, dat-none, dat-some, row, Has, fix-l1, tree-in, row-in}
 use Rattle.cuts.proofs.Step.{fix-same, free-not-0}
 
 -- what a cluster to which nothing refers in the earlier image is for: nothing, the L2 table of L1 entry i, or the data of entry j below it
@@ -38,6 +38,11 @@ used-table i e = omega (arith, ap kind e)
 
 pub used-datum : (i j : ℕ) → datum i j ≢ unused
 used-datum i j e = omega (arith, ap kind e)
+
+pub use-or : (u : Use) → (u ≡ unused) ⊎ (u ≢ unused)
+use-or unused = inl refl
+use-or (table i) = inr (used-table i)
+use-or (datum i j) = inr (used-datum i j)
 
 -- a sum with one term at most
 pub sum-only : (n : ℕ) (f : ℕ → ℕ) (a : ℕ) → ((i : ℕ) → i < n → i ≢ a → f i ≡ 0) → (a < n → f a ≤ 1) → sumTo n f ≤ 1
@@ -84,10 +89,31 @@ module _ (g : Geo) (K : Codec) (m : ℕ → ℕ → ℕ) (role : ℕ → Use) wh
     pub l1s : (i : ℕ) → i < g .L → (l1 g x i ≡ l1 g m i) ⊎ Linked i (l1 g x i)
     pub l2s : (i j : ℕ) → i < g .L → j < g .E → tab g K x i ≢ 0 → Old i j (l2 g x (tab g K x i) j) ⊎ Put i j (l2 g x (tab g K x i) j)
 
--- nothing referred to a table that is new
-pub linked-free : (g : Geo) (K : Codec) (m : ℕ → ℕ → ℕ) (role : ℕ → Use) (x : ℕ → ℕ → ℕ) (i : ℕ) → Linked g K m role i (l1 g x i) → refsOf g K m (tab g K x i) ≡ 0
-unfolding tab
-linked-free g K m role x i k = k .free
+-- a new entry that names cluster c
+pub put-new : (g : Geo) (K : Codec) (ok : GeoOk g K) (m : ℕ → ℕ → ℕ) (role : ℕ → Use) (i j c : ℕ) → i < g .M → c < g .N → c ≢ 0 → (dat g K m i j ≢ 0 → refsOf g K m (dat g K m i j) ≤ 1)
+    → Place g K m role i j c → Put g K m role i j (K .mk c)
+put-new g K ok m role i j c act cN c0 left place =
+    record {
+      active = act;
+      good = ok .laws .mk-good2 c cN c0;
+      own = λ d. ok .laws .mk-own c cN;
+      plain = λ d. ok .laws .mk-flag c cN;
+      left = left;
+      place = rw (ok .laws .mk-clus c cN) place;
+    }
+
+-- what is named has a reference, and so has an L1 table
+pub named-tab : (g : Geo) (K : Codec) (x : ℕ → ℕ → ℕ) (i : ℕ) → i < g .L → tab g K x i ≢ 0 → 1 ≤ refsOf g K x (tab g K x i)
+named-tab g K x i l d = omega (arith, refs-tab (g .L) (g .E) (fix g x) (tab g K x) (dat g K x) (tab g K x i) i l, hit-self (tab g K x i) d)
+
+pub named-dat : (g : Geo) (K : Codec) (x : ℕ → ℕ → ℕ) (i j : ℕ) → i < g .L → j < g .E → dat g K x i j ≢ 0 → 1 ≤ refsOf g K x (dat g K x i j)
+named-dat g K x i j l k d = omega (arith, refs-dat (g .L) (g .E) (fix g x) (tab g K x) (dat g K x) (dat g K x i j) i j l k, hit-self (dat g K x i j) d)
+
+pub row-fix : (g : Geo) (K : Codec) (ok : GeoOk g K) (x : ℕ → ℕ → ℕ) (i : ℕ) → i < g .L → Has g i → 1 ≤ fix g x (row g i)
+row-fix g K ok x i l hi = fix-l1 g x (row g i) (i / g .M) (i % g .M / g .E) (omega (arith, tree-in g K ok i l)) (row-in g K ok i l hi) refl
+
+pub free-row : (g : Geo) (K : Codec) (ok : GeoOk g K) (x : ℕ → ℕ → ℕ) (i : ℕ) → i < g .L → Has g i → (u : ℕ) → refsOf g K x u ≡ 0 → u ≢ row g i
+free-row g K ok x i l hi u z e = omega (arith, z, ap (refsOf g K x) e, row-fix g K ok x i l hi, refs-fix (g .L) (g .E) (fix g x) (tab g K x) (dat g K x) (row g i))
 
 module _ (g : Geo) (K : Codec) (ok : GeoOk g K) (m x : ℕ → ℕ → ℕ) (role : ℕ → Use) (s : Sound g K m) (w : Mixture g K m role x) where
   mix-blk : (k : ℕ) → k < g .B → blk g x k ≡ blk g m k
@@ -105,6 +131,19 @@ module _ (g : Geo) (K : Codec) (ok : GeoOk g K) (m x : ℕ → ℕ → ℕ) (rol
       go : (l1 g x i ≡ l1 g m i) ⊎ Linked g K m role i (l1 g x i) → (l1 g x i ≡ l1 g m i) × (tab g K x i ≡ tab g K m i)
       go (inl e) = (e, ap (K .clus) e)
       go (inr k) = absurd (d (k .before))
+
+  -- a table where the earlier image has none is new, and nothing referred to it there
+  pub mix-new : (i : ℕ) → i < g .L → tab g K m i ≡ 0 → tab g K x i ≢ 0 → Linked g K m role i (l1 g x i)
+  unfolding tab
+  mix-new i l z d = go (w .l1s i l)
+    where
+      go : (l1 g x i ≡ l1 g m i) ⊎ Linked g K m role i (l1 g x i) → Linked g K m role i (l1 g x i)
+      go (inl e) = absurd (d (ap (K .clus) e ∙ z))
+      go (inr k) = k
+
+  pub mix-free : (i : ℕ) → i < g .L → tab g K m i ≡ 0 → tab g K x i ≢ 0 → refsOf g K m (tab g K x i) ≡ 0
+  unfolding tab
+  mix-free i l z d = mix-new i l z d .free
 
   pub put-place : (i j : ℕ) → tab g K x i ≢ 0 → Put g K m role i j (l2 g x (tab g K x i) j) → Place g K m role i j (dat g K x i j)
   put-place i j d p = rw (dat-some g K x i j d) (p .place)
@@ -334,12 +373,6 @@ module _ (g : Geo) (K : Codec) (ok : GeoOk g K) (m x : ℕ → ℕ → ℕ) (rol
         go (yes h) = rw (many-refs c h) r
         go (no n) = let e : refsOf g K x c ≡ refsOf g K m c = omega (arith, old-refs c old) in rw e r
 
-    named-tab : (i : ℕ) → i < g .L → tab g K x i ≢ 0 → 1 ≤ refsOf g K x (tab g K x i)
-    named-tab i l d = omega (arith, refs-tab (g .L) (g .E) (fix g x) (tab g K x) (dat g K x) (tab g K x i) i l, hit-self (tab g K x i) d)
-
-    named-dat : (i j : ℕ) → i < g .L → j < g .E → dat g K x i j ≢ 0 → 1 ≤ refsOf g K x (dat g K x i j)
-    named-dat i j l k d = omega (arith, refs-dat (g .L) (g .E) (fix g x) (tab g K x) (dat g K x) (dat g K x i j) i j l k, hit-self (dat g K x i j) d)
-
     -- a new cluster that is named has one reference
     one-new : (c : ℕ) → refsOf g K m c ≡ 0 → 1 ≤ refsOf g K x c → refsOf g K x c ≡ 1
     one-new c z h = omega (arith, h, new-refs c z (free-not-0 g K ok m s c z))
@@ -355,10 +388,10 @@ module _ (g : Geo) (K : Codec) (ok : GeoOk g K) (m x : ℕ → ℕ → ℕ) (rol
         go (inl e) =
             let t : tab g K x i ≡ tab g K m i = ap (K .clus) e in
             let d′ : tab g K m i ≢ 0 = λ z. d (t ∙ z) in
-            let h : 1 ≤ refsOf g K m (tab g K m i) = omega (arith, refs-tab (g .L) (g .E) (fix g m) (tab g K m) (dat g K m) (tab g K m i) i l, hit-self (tab g K m i) d′) in
-            let v : 1 ≤ refsOf g K x (tab g K m i) = rw t at (named-tab i l d) in
+            let h : 1 ≤ refsOf g K m (tab g K m i) = named-tab g K m i l d′ in
+            let v : 1 ≤ refsOf g K x (tab g K m i) = rw t at (named-tab g K x i l d) in
             rw (e, t) (kept-one (tab g K m i) (K .own (l1 g m i)) h v (s .mark1 i l n d′))
-        go (inr k) = right-one (K .own (l1 g x i)) (refsOf g K x (tab g K x i)) (k .own) (one-new (tab g K x i) (k .free) (named-tab i l d))
+        go (inr k) = right-one (K .own (l1 g x i)) (refsOf g K x (tab g K x i)) (k .own) (one-new (tab g K x i) (k .free) (named-tab g K x i l d))
 
     mix-mark2 : (i j : ℕ) → i < g .L → i < g .M → j < g .E → dat g K x i j ≢ 0 → Right (K .own (l2 g x (tab g K x i) j)) (refsOf g K x (dat g K x i j))
     mix-mark2 i j l n k d = go (w .l2s i j l k some)
@@ -372,17 +405,17 @@ module _ (g : Geo) (K : Codec) (ok : GeoOk g K) (m x : ℕ → ℕ → ℕ) (rol
         placed p (inl e) = absurd (d e)
         placed p (inr (inl e)) =
             let d′ : dat g K m i j ≢ 0 = λ z. d (e ∙ z) in
-            let h : 1 ≤ refsOf g K m (dat g K m i j) = omega (arith, refs-dat (g .L) (g .E) (fix g m) (tab g K m) (dat g K m) (dat g K m i j) i j l k, hit-self (dat g K m i j) d′) in
-            let v : 1 ≤ refsOf g K x (dat g K m i j) = rw e at (named-dat i j l k d) in
+            let h : 1 ≤ refsOf g K m (dat g K m i j) = named-dat g K m i j l k d′ in
+            let v : 1 ≤ refsOf g K x (dat g K m i j) = rw e at (named-dat g K x i j l k d) in
             rw e (omega (arith, v, h, p .left d′, old-refs (dat g K m i j) h))
-        placed p (inr (inr e)) = one-new (dat g K x i j) (e .0) (named-dat i j l k d)
+        placed p (inr (inr e)) = one-new (dat g K x i j) (e .0) (named-dat g K x i j l k d)
 
         go : Old g K m role i j (l2 g x (tab g K x i) j) ⊎ Put g K m role i j (l2 g x (tab g K x i) j) → Right (K .own (l2 g x (tab g K x i) j)) (refsOf g K x (dat g K x i j))
         go (inl o) =
             let e : dat g K x i j ≡ dat g K m i j = dat-some g K x i j some ∙ ap (K .clus) (o .entry) ∙ sym (dat-some g K m i j (o .some)) in
             let d′ : dat g K m i j ≢ 0 = λ z. d (e ∙ z) in
-            let h : 1 ≤ refsOf g K m (dat g K m i j) = omega (arith, refs-dat (g .L) (g .E) (fix g m) (tab g K m) (dat g K m) (dat g K m i j) i j l k, hit-self (dat g K m i j) d′) in
-            let v : 1 ≤ refsOf g K x (dat g K m i j) = rw e at (named-dat i j l k d) in
+            let h : 1 ≤ refsOf g K m (dat g K m i j) = named-dat g K m i j l k d′ in
+            let v : 1 ≤ refsOf g K x (dat g K m i j) = rw e at (named-dat g K x i j l k d) in
             rw (o .entry, e) (kept-one (dat g K m i j) (K .own (l2 g m (tab g K m i) j)) h v (s .mark2 i j l n k d′))
         go (inr p) = right-one (K .own (l2 g x (tab g K x i) j)) (refsOf g K x (dat g K x i j)) (p .own (λ z. d (dat-some g K x i j some ∙ z))) (placed p (put-place i j some p))
 

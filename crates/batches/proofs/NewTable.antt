@@ -2,18 +2,18 @@
 use mathlib.Core.Path.{_≡_, sym, ap, _∙_}
 use mathlib.Core.Logic.{_⊎_, inl, inr, _≢_}
 use mathlib.Core.List.{List, [], _∷_, _++_}
-use Prim.Native.Nat.{ℕ, _+_, _*_, _%_, _≤_, _<_}
-use native.Mathlib.Nat.{mod-lt}
+use Prim.Native.Nat.{ℕ, _+_, _*_, _≤_, _<_}
 use native.Mathlib.Decide.{ℕ-discrete}
 use native.Mathlib.Omega.{arith}
 use lib.ListN.{length}
 use Rattle.cuts.proofs.Cell.{enc, length-enc, small-enc, Small, Stored, mem}
-use Rattle.cuts.proofs.Meta.{Geo, GeoOk, Codec, cnt, row, col, Has, l2, tab, refsOf, row-N}
+use Rattle.cuts.proofs.Meta.{Geo, GeoOk, Codec, cnt, row, col, Has, l2, tab, refsOf}
 use Rattle.cuts.proofs.Step.{link-tab-new}
 use Rattle.cuts.proofs.Run.{Store, apply, fill, Each, none, also, each-append}
-use Rattle.cuts.proofs.Call.{Ok, countStore, entryStore, linkStore, one-fits, next-small, next-stored}
+use Rattle.cuts.proofs.Call.{Ok, countStore, entryStore, linkStore, one-fits}
 use Rattle.cuts.proofs.Write.{small-replicate}
 use Rattle.batches.proofs.Mixture.{Use, table, datum, upper, used-table, used-datum}
+use Rattle.batches.proofs.Stores.{Laid, laid-link}
 use Rattle.batches.proofs.Planned.{Planned, Settled}
 use Rattle.batches.proofs.Links.{inner-keep, inner-cnt, less}
 use Rattle.batches.proofs.Tables.{Z, role₁, s₁, role₂, s₂, s₃, lZ, old, one, two, plan₁, zc₁, free-t, free-t₀, plan₂, free-t₂, free-c₀, plan₃, stored₃, entry-c, entry-0, t0, mc, filled, alive, used-t, only, rest, z₃, was, table-call}
@@ -65,16 +65,16 @@ module _ (g : Geo) (K : Codec) (ok : GeoOk g K) (m0 : ℕ → ℕ → ℕ) (img 
       a b w aL bE wN (λ y d o h. stored₃ g K ok m0 img k0 role dead r l f s p settled i j iL jE act hi z t c A tN cN tc zt zc st sc lA smA .cluster (K .clus w) o h (not-t a b w aL bE k y d)) (knows₂ a b w aL bE wN (knows₁ a b w aL bE wN k))
 
   -- ---- the link
-  fits : 8 * col g i + length (enc 8 (K .mk t)) ≤ g .C
-  fits = omega (arith, ok .c8, length-enc 8 (K .mk t), mod-lt (i % g .M) (ok .epos))
+  lay : Laid g (s₃ g K ok m0 img k0 role dead r l f s p settled i j iL jE act hi z t c A tN cN tc zt zc st sc lA smA) (row g i) (8 * col g i) (K .mk t)
+  lay = laid-link g K ok m0 _ (plan₃ g K ok m0 img k0 role dead r l f s p settled i j iL jE act hi z t c A tN cN tc zt zc st sc lA smA .fine) i (K .mk t) iL hi
 
   sm : (k o : ℕ) → y₄ k o < 256
   unfolding apply linkStore
-  sm = next-small g K ok m0 (s₃ g K ok m0 img k0 role dead r l f s p settled i j iL jE act hi z t c A tN cN tc zt zc st sc lA smA) (plan₃ g K ok m0 img k0 role dead r l f s p settled i j iL jE act hi z t c A tN cN tc zt zc st sc lA smA .fine) (row g i) (8 * col g i) (enc 8 (K .mk t)) (row-N g K ok i iL hi) fits (small-enc 8 (K .mk t))
+  sm = lay .small
 
   stored₄ : Stored (g .C) y₃ y₄ (row g i) (8 * col g i) (enc 8 (K .mk t))
   unfolding apply linkStore
-  stored₄ = next-stored g K ok m0 (s₃ g K ok m0 img k0 role dead r l f s p settled i j iL jE act hi z t c A tN cN tc zt zc st sc lA smA) (plan₃ g K ok m0 img k0 role dead r l f s p settled i j iL jE act hi z t c A tN cN tc zt zc st sc lA smA .fine) (row g i) (8 * col g i) (enc 8 (K .mk t)) (row-N g K ok i iL hi) fits (small-enc 8 (K .mk t))
+  stored₄ = lay .stored
 
   -- what nothing names is not named by the new table either
   unnamed-still : (w : ℕ) → w ≢ t → w ≢ c → w ≢ 0 → refsOf g K y₃ w ≡ 0 → refsOf g K y₄ w ≡ 0
@@ -96,7 +96,7 @@ module _ (g : Geo) (K : Codec) (ok : GeoOk g K) (m0 : ℕ → ℕ → ℕ) (img 
       knows-link g K ok past y₃ y₄ (plan₃ g K ok m0 img k0 role dead r l f s p settled i j iL jE act hi z t c A tN cN tc zt zc st sc lA smA .fine .sound) dead sm i t iL hi tN (z₃ g K ok m0 img k0 role dead r l f s p settled i j iL jE act hi z t c A tN cN tc zt zc st sc lA smA fine) stored₄ a b w aL bE wN (knows₃ a b w aL bE wN k)
       (λ y d e. unnamed-still (K .clus w) (not-t a b w aL bE k y d) (not-c a b w aL bE k y d) d e)
 
-  hidden : Each (Hidden g K ok m0 img) ((((countStore g (mem (g .C) img) t 1 ∷ []) ++ fill t 0 (Z g K ok m0 img k0 role dead r l f s p settled i j iL jE act hi z t c A tN cN tc zt zc st sc lA smA)) ++ ((countStore g (mem (g .C) img) c 1 ∷ []) ++ fill c 0 A)) ++ ((entryStore g t j (K .mk c) ∷ []) ++ []))
+  pub hidden : Each (Hidden g K ok m0 img) ((((countStore g (mem (g .C) img) t 1 ∷ []) ++ fill t 0 (Z g K ok m0 img k0 role dead r l f s p settled i j iL jE act hi z t c A tN cN tc zt zc st sc lA smA)) ++ ((countStore g (mem (g .C) img) c 1 ∷ []) ++ fill c 0 A)) ++ ((entryStore g t j (K .mk c) ∷ []) ++ []))
   unfolding entryStore
   hidden =
       each-append

@@ -50,17 +50,22 @@ module _ (g : Geo) (K : Codec) (ok : GeoOk g K) (m0 : ℕ → ℕ → ℕ) (img 
   pub still-known : (a b v : ℕ) → a < g .L → b < g .E → K .clus v < g .N → Known g K past x dead a b v → Known g K past (mem (g .C) s′) dead a b v
   still-known = knows-place g K ok past x (mem (g .C) s′) (p .fine .sound) dead (rw is (left .1)) now i j iL jE d one (stored .cluster) (rw is (left .2))
 
-  pub seen : Each (Hidden g K ok m0 img) (fill c o bs) ⊎ Visible g K ok m0 img k0 past (fill c o bs)
+  pub seen : Each (Hidden g K ok m0 img) (fill c o bs) ⊎ Visible g K ok m0 img k0 past i j o bs (fill c o bs)
   seen = go (home g K ok m0 img k0 role x (p .mix) i j iL jE d one)
     where
-      old-place : c ≡ dat g K m i j → dat g K m i j ≢ 0 → refsOf g K m (dat g K m i j) ≤ 1 → Dec (mark g K m i j ≡ 0) → Each (Hidden g K ok m0 img) (fill c o bs) ⊎ Visible g K ok m0 img k0 past (fill c o bs)
+      old-place : c ≡ dat g K m i j → dat g K m i j ≢ 0 → refsOf g K m (dat g K m i j) ≤ 1 → Dec (mark g K m i j ≡ 0) → Each (Hidden g K ok m0 img) (fill c o bs) ⊎ Visible g K ok m0 img k0 past i j o bs (fill c o bs)
       old-place e d₀ one₀ (yes z) =
-          inr (record { i = i; j = j; o = o; bs = bs; is = ap (λ (k : ℕ). fill k o bs) e; iL = iL; jE = jE; inC = inC; small = sm; some = d₀; one = one₀; plain = z })
+          inr (record { is = ap (λ (k : ℕ). fill k o bs) e; iL = iL; jE = jE; inC = inC; small = sm; some = d₀; one = one₀; plain = z })
       old-place e d₀ one₀ (no z) = inl (rw e (marked-fill g K ok m0 img k0 past i j o bs iL jE inC sm d₀ one₀ z))
 
-      go : Home g K ok m0 img k0 role i j c → Each (Hidden g K ok m0 img) (fill c o bs) ⊎ Visible g K ok m0 img k0 past (fill c o bs)
+      go : Home g K ok m0 img k0 role i j c → Each (Hidden g K ok m0 img) (fill c o bs) ⊎ Visible g K ok m0 img k0 past i j o bs (fill c o bs)
       go (old e d₀ one₀) = old-place e d₀ one₀ (ℕ-discrete (mark g K m i j) 0)
       go (new z e) = inl (hidden-fill g K ok m0 img k0 past c o bs cN inC sm z)
+
+  shown-or : Each (Hidden g K ok m0 img) (fill c o bs) ⊎ Visible g K ok m0 img k0 past i j o bs (fill c o bs)
+      → Each (Hidden g K ok m0 img) (fill c o bs) ⊎ ((a b e : ℕ) × (ds : List ℕ) × Visible g K ok m0 img k0 past a b e ds (fill c o bs))
+  shown-or (inl h) = inl h
+  shown-or (inr h) = inr (i, j, o, bs, h)
 
   pub overwrite : Call g K ok m0 img k0 past role role dead dead (fill c o bs) [] [] s s′
   overwrite =
@@ -68,6 +73,6 @@ module _ (g : Geo) (K : Codec) (ok : GeoOk g K) (m0 : ℕ → ℕ → ℕ) (img 
         step = place-step g K ok m0 img k0 role dead r l f s p i j o bs iL jE inC sm d one;
         knows = still-known;
         written = none;
-        early = seen;
+        early = shown-or seen;
         linked = λ t a n e. inl e;
       }

@@ -12,7 +12,7 @@ use Rattle.cuts.proofs.Meta.{Geo, GeoOk, Codec, blk, l2, tab, refsOf, keep-tab,
 use Rattle.cuts.proofs.Run.{Store, apply, applyAll, picked, Each, none, also, kept}
 use Rattle.cuts.proofs.Call.{Ok, countStore, count-store-same, in-blocks}
 use Rattle.batches.proofs.Mixture.{Use, unused, table, Put}
-use Rattle.batches.proofs.Prepared.{Prepared, Ready, prepared-start, count-keeps, ready-all, ready-cut, Raises, raised}
+use Rattle.batches.proofs.Prepared.{Prepared, Ready, prepared-start, count-keeps, ready-all, Raises, raised}
 use Rattle.batches.proofs.Joined.{Joined, Linking, linking-all, linking-cut}
 use Rattle.batches.proofs.Lists.{Fit, Agree, Apart, Whole, all-whole, all-apart, all-agree, each-map, Merge, merge-left, merge-right}
 use Rattle.batches.proofs.Units.{ready-fit, linking-fit, linking-apart}
@@ -66,9 +66,6 @@ module _ (g : Geo) (K : Codec) (ok : GeoOk g K) (m0 : ℕ → ℕ → ℕ) (img 
           ∙ sym (merge-right (g .C) (g .N) k mg fits-r fits-l a img (k0 .len) x h)
 
   -- ---- before the entries
-  pub before-cut : (cs : List Bool) → Prepared g K ok m0 img (applyAll (g .C) (picked cs r) img)
-  before-cut cs = ready-cut g K ok m0 img er cs img (prepared-start g K ok m0 img k0)
-
   prepared : Prepared g K ok m0 img middle
   prepared = ready-all g K ok m0 img er img (prepared-start g K ok m0 img k0)
 

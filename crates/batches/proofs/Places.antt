@@ -7,14 +7,13 @@ use native.Mathlib.Decide.{decLt}
 use native.Mathlib.Omega.{arith}
 use lib.ListN.{length}
 use lib.Seq.{sets}
-use Rattle.cuts.proofs.Refs.{hit-self, refs-dat}
 use Rattle.cuts.proofs.Cell.{Small, mem}
-use Rattle.cuts.proofs.Meta.{Geo, GeoOk, Codec, blk, cnt, l2, fix, tab, dat, refsOf, Keep, dat-none, dat-some, keep-tab, keep-refs}
+use Rattle.cuts.proofs.Meta.{Geo, GeoOk, Codec, blk, cnt, l2, tab, dat, refsOf, Keep, dat-none, dat-some, keep-tab, keep-refs}
 use Rattle.cuts.proofs.Run.{Store, applyAll, fill, apply-fill, Each, none, also}
 use Rattle.cuts.proofs.Step.{dat-in}
 use Rattle.cuts.proofs.Write.{small-one}
 use Rattle.cuts.proofs.Call.{Ok}
-use Rattle.batches.proofs.Mixture.{Use, datum, Place, Put, Old, Mixture, put-place, many-refs}
+use Rattle.batches.proofs.Mixture.{named-tab, named-dat, mix-tab, Use, datum, Place, Put, Old, Mixture, put-place, many-refs}
 use Rattle.batches.proofs.Prepared.{Ready, spare, inside, data-set}
 use Rattle.batches.proofs.Stores.{keep-mixture}
 use Rattle.batches.proofs.Planned.{keep-tabled, Planned}
@@ -39,6 +38,12 @@ module _ (g : Geo) (K : Codec) (ok : GeoOk g K) (m0 : ℕ → ℕ → ℕ) (img 
         go (yes two) = omega (arith, one, many-refs g K ok m x role (k0 .sound) w c two)
         go (no n) = omega arith
 
+    -- a table of the earlier image with one reference had one there
+    pub one-table : (i : ℕ) → i < g .L → tab g K m i ≢ 0 → refsOf g K x (tab g K x i) ≤ 1 → (tab g K x i ≡ tab g K m i) × (refsOf g K m (tab g K m i) ≤ 1)
+    one-table i l d one =
+        let e : tab g K x i ≡ tab g K m i = mix-tab g K ok m x role (k0 .sound) w i l d .1 in
+        (e, one-before (tab g K m i) (named-tab g K m i l d) (rw e at one))
+
     pub home : (i j : ℕ) → i < g .L → j < g .E → dat g K x i j ≢ 0 → refsOf g K x (dat g K x i j) ≤ 1 → Home i j (dat g K x i j)
     home i j l n d one = go (w .l2s i j l n some)
       where
@@ -48,7 +53,7 @@ module _ (g : Geo) (K : Codec) (ok : GeoOk g K) (m0 : ℕ → ℕ → ℕ) (img 
         same : dat g K x i j ≡ dat g K m i j → Home i j (dat g K x i j)
         same e =
             let d′ : dat g K m i j ≢ 0 = λ z. d (e ∙ z) in
-            let h : 1 ≤ refsOf g K m (dat g K m i j) = omega (arith, refs-dat (g .L) (g .E) (fix g m) (tab g K m) (dat g K m) (dat g K m i j) i j l n, hit-self (dat g K m i j) d′) in
+            let h : 1 ≤ refsOf g K m (dat g K m i j) = named-dat g K m i j l n d′ in
             old e d′ (one-before (dat g K m i j) h (rw e at one))
 
         placed : Place g K m role i j (dat g K x i j) → Home i j (dat g K x i j)

@@ -19,7 +19,7 @@ use Rattle.batches.proofs.Joined.{Joined, Linking}
 use Rattle.batches.proofs.Lists.{Fit, Agree, Apart, each-map, Merge, empty, left, right, merge-left}
 use Rattle.batches.proofs.Units.{ready-fit, linking-fit, linking-apart, count-fit}
 use Rattle.batches.proofs.Order.{cellAt, Cell}
-use Rattle.batches.proofs.Phases.{middle, late, two-phases, start, joined-late, Falling, falls, before-cut, among-cut, after-cut}
+use Rattle.batches.proofs.Phases.{middle, late, two-phases, start, joined-late, Falling, falls, among-cut, after-cut}
 
 pub tab-eq : (g : Geo) (K : Codec) (a b : ℕ → ℕ → ℕ) (i : ℕ) → l1 g a i ≡ l1 g b i → tab g K a i ≡ tab g K b i
 unfolding tab
@@ -200,10 +200,6 @@ module _ (g : Geo) (K : Codec) (ok : GeoOk g K) (m0 : ℕ → ℕ → ℕ) (img 
     middle-entry i j h n d = ready-all g K ok m0 img (p .ready) img (prepared-start g K ok m0 img k0) .keep .l2s i j h n d
 
     -- ---- what a cut leaves
-    -- the first phase at work
-    pub cut-before : (cs : List Bool) → Prepared g K ok m0 img (applyAll (g .C) (picked cs r) img)
-    cut-before = before-cut g K ok m0 img k0 role r l (p .ready) (p .linking)
-
     -- the entries at work
     pub cut-among : (cs : List Bool) → Joined g K ok m0 img k0 role (applyAll (g .C) (picked cs l) middleImage)
     cut-among = among-cut g K ok m0 img k0 role r l (p .ready) (p .linking) (p .raise) filled

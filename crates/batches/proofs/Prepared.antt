@@ -1,5 +1,5 @@
 -- Units that may be stored in any order before the entries of a batch: counts that cover the references of the first image, bytes of clusters to which
--- nothing refers there, and bytes of data clusters in place. Each leaves every table. Assumes nothing.
+-- nothing refers there, bytes of data clusters in place, and idle bytes of the header. Each leaves every table. Assumes nothing.
 use mathlib.Core.Path.{_≡_, refl, sym, _∙_}
 use mathlib.Core.Logic.{_⊎_, _≢_}
 use mathlib.Core.List.{List, _∷_}
@@ -16,6 +16,7 @@ use Rattle.cuts.proofs.Step.{gread, dat-in, data-step, Quiet}
 use Rattle.cuts.proofs.Run.{Store, apply, applyAll, picked, Each, none, also, kept}
 use Rattle.cuts.proofs.Call.{Ok, countStore, away, ok-next, next-small, next-stored, next-free, CountSet, then-count}
 use Rattle.cuts.proofs.Write.{keep-trans}
+use Rattle.cuts.proofs.Idle.{idle-store}
 use Rattle.batches.proofs.Lists.{each-map}
 
 module _ (g : Geo) (K : Codec) (ok : GeoOk g K) (m0 : ℕ → ℕ → ℕ) (img : List ℕ) where
@@ -30,6 +31,7 @@ module _ (g : Geo) (K : Codec) (ok : GeoOk g K) (m0 : ℕ → ℕ → ℕ) (img 
     inside : (i j o : ℕ) (bs : List ℕ) → i < g .L → j < g .E → o + length bs ≤ g .C → Small bs
         → dat g K (mem (g .C) img) i j ≢ 0 → refsOf g K (mem (g .C) img) (dat g K (mem (g .C) img) i j) ≤ 1
         → Ready (record { w = dat g K (mem (g .C) img) i j; o = o; bs = λ f. bs })
+    idles : (o : ℕ) (bs : List ℕ) → g .idle ≤ o → o + length bs ≤ g .busy → Small bs → Ready (record { w = 0; o = o; bs = λ f. bs })
 
   pub prepared-start : Ok g K m0 img → Prepared img
   prepared-start k = record { fine = k; keep = record { small = k .sound .bytes; rts = λ a l. refl; l1s = λ a l. refl; l2s = λ i j l n d. refl } }
@@ -101,6 +103,7 @@ module _ (g : Geo) (K : Codec) (ok : GeoOk g K) (m0 : ℕ → ℕ → ℕ) (img 
       next-free g K ok m0 s (p .fine) w o bs l h q (same-refs s p w ∙ z) in
       step s _ p (r .0) (r .1 .keep)
   ready-keeps u (inside i j o bs l n h q d one) s p = step s _ p (place-set s p i j o bs l n h q d one .0) (place-set s p i j o bs l n h q d one .1)
+  ready-keeps u (idles o bs a b q) s p = let r = idle-store g K ok m0 s (p .fine) o bs a b q in step s _ p (r .0) (r .1 .keep)
 
   -- ---- a count that is not 0 stays so
   ready-one : (c : ℕ) → c < g .N → (u : Store) → Ready u → (s : List ℕ) → Prepared s → 1 ≤ cnt g (mem (g .C) s) c → 1 ≤ cnt g (mem (g .C) (apply (g .C) u s)) c
@@ -115,6 +118,7 @@ module _ (g : Geo) (K : Codec) (ok : GeoOk g K) (m0 : ℕ → ℕ → ℕ) (img 
       go (no d) = rw (r .rest c cN d) one
   ready-one c cN u (spare w o bs l h q z) s p one = rw (next-free g K ok m0 s (p .fine) w o bs l h q (same-refs s p w ∙ z) .1 .cnts c cN) one
   ready-one c cN u (inside i j o bs l n h q d on) s p one = rw (place-set s p i j o bs l n h q d on .2 c cN) one
+  ready-one c cN u (idles o bs a b q) s p one = rw (idle-store g K ok m0 s (p .fine) o bs a b q .1 .cnts c cN) one
 
   -- ---- lists of them
   pub ready-all : {us : List Store} → Each Ready us → (s : List ℕ) → Prepared s → Prepared (applyAll (g .C) us s)

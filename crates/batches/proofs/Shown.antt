@@ -3,21 +3,22 @@ use mathlib.Core.Path.{_≡_, refl, sym, ap, _∙_}
 use mathlib.Core.Logic.{_⊎_, inl, inr, _≢_}
 use mathlib.Core.Bool.{Bool}
 use mathlib.Core.List.{List}
-use Prim.Native.Nat.{ℕ, _+_, _*_, _/_, _%_, _^_, _≤_, _<_}
+use Prim.Native.Nat.{ℕ, _+_, _*_, _^_, _≤_, _<_}
 use native.Mathlib.Decide.{ℕ-discrete}
 use native.Mathlib.Omega.{arith}
-use lib.ListN.{length}
 use lib.Seq.{sets}
-use Rattle.cuts.proofs.Refs.{hit-self, refs-tab, tab-dat, fix-tab, fix-dat}
-use Rattle.cuts.proofs.Cell.{num-cong, enc, length-enc, small-enc, Stored, mem}
-use Rattle.cuts.proofs.Meta.{Geo, GeoOk, Codec, blk, row, Has, l1, l2, fix, tab, dat, refsOf, dat-some, fix-blk, blk-0, l1-0, fix-l1, tree-in, row-in, row-N}
-use Rattle.cuts.proofs.Step.{shown, gread, gread-absent, tab-in, fix-one, pair-or, entry-l2, entry-new}
+use Rattle.cuts.proofs.Refs.{tab-dat, fix-tab, fix-dat}
+use Rattle.cuts.proofs.Cell.{num-cong, enc, mem}
+use Rattle.cuts.proofs.Meta.{Geo, GeoOk, Codec, blk, row, Has, l1, l2, fix, tab, dat, refsOf, dat-some}
+use Rattle.cuts.proofs.Step.{shown, gread, gread-absent, tab-in, pair-or, entry-l2, entry-new}
 use Rattle.cuts.proofs.Run.{Store, apply, applyAll, picked, Each, kept}
-use Rattle.cuts.proofs.Call.{Ok, entryStore, linkStore, next-small, next-stored}
-use Rattle.batches.proofs.Mixture.{Use, table, Linked, Place, Put, Old, Mixture, mix-tab, old-refs}
-use Rattle.batches.proofs.Joined.{Joined, Linking, enters, links, linking-keeps}
+use Rattle.cuts.proofs.Call.{Ok, entryStore, linkStore}
+use Rattle.batches.proofs.Mixture.{Use, table, Linked, Place, Put, Old, Mixture, mix-tab, row-fix}
+use Rattle.batches.proofs.Joined.{Joined, Linking, enters, links, tab-some, tab-alone, linking-keeps}
 use Rattle.batches.proofs.Lists.{Agree, Apart, apply-apart, all-whole, all-apart, each-map, picked-each}
-use Rattle.batches.proofs.Units.{linking-fit}
+use Rattle.batches.proofs.Units.{row-one, row-some, linking-fit}
+use Rattle.batches.proofs.Stores.{Laid, laid-entry}
+use Rattle.batches.proofs.Order.{data-aside}
 use Rattle.batches.proofs.Planned.{Planned, Settled, middleImage, cut-among, before-agree, no-entry, not-block, tab-eq, fits-l, middle-joined, middle-entry}
 use Rattle.batches.proofs.Known.{Known, shown-frame, current-shows}
 
@@ -48,36 +49,27 @@ module _ (g : Geo) (K : Codec) (ok : GeoOk g K) (m0 : ℕ → ℕ → ℕ) (img 
     kept-tab i l d = mix-tab g K ok m x role (k0 .sound) (p .mix) i l d .1
 
     some : tab g K x a ≢ 0
-    some z = t (sym (kept-tab a aL t) ∙ z)
-
-    named : 1 ≤ refsOf g K m (tab g K m a)
-    named = omega (arith, refs-tab (g .L) (g .E) (fix g m) (tab g K m) (dat g K m) (tab g K m a) a aL, hit-self (tab g K m a) t)
+    some = tab-some g K ok m0 img k0 role s p a aL t one
 
     alone : refsOf g K x (tab g K x a) ≤ 1
-    alone = rw (kept-tab a aL t) (omega (arith, one, old-refs g K ok m x role (k0 .sound) (p .mix) (tab g K m a) named))
+    alone = tab-alone g K ok m0 img k0 role s p a aL t one
 
-    fits : 8 * b + length (enc 8 v) ≤ g .C
-    fits = omega (arith, ok .c8, length-enc 8 v)
+    lay : Laid g s (tab g K x a) (8 * b) v
+    lay = laid-entry g K ok m0 s (p .fine) a b v aL bE
 
     abbrev x′ : ℕ → ℕ → ℕ
     x′ = mem (g .C) (sets s (tab g K x a * g .C + 8 * b) (enc 8 v))
-
-    sm : (k o : ℕ) → x′ k o < 256
-    sm = next-small g K ok m0 s (p .fine) (tab g K x a) (8 * b) (enc 8 v) (tab-in g K ok x (p .fine .sound) a aL) fits (small-enc 8 v)
-
-    st : Stored (g .C) x x′ (tab g K x a) (8 * b) (enc 8 v)
-    st = next-stored g K ok m0 s (p .fine) (tab g K x a) (8 * b) (enc 8 v) (tab-in g K ok x (p .fine .sound) a aL) fits (small-enc 8 v)
 
     shows′ : (i j : ℕ) → i < g .L → j < g .E → tab g K m i ≢ 0 → (l2 g x′ (tab g K m i) j ≡ l2 g m (tab g K m i) j) ⊎ Q i j (l2 g x′ (tab g K m i) j)
     shows′ i j l n d = go (pair-or i j a b)
       where
         go : ((i ≡ a) × (j ≡ b)) ⊎ ((i ≢ a) ⊎ (j ≢ b)) → (l2 g x′ (tab g K m i) j ≡ l2 g m (tab g K m i) j) ⊎ Q i j (l2 g x′ (tab g K m i) j)
         go (inl e) =
-            let y : l2 g x′ (tab g K m a) b ≡ v = ap (λ (k : ℕ). l2 g x′ k b) (sym (kept-tab a aL t)) ∙ entry-new g K ok x (p .fine .sound) x′ sm a b v aL bE some alone (q .good) lv st in
+            let y : l2 g x′ (tab g K m a) b ≡ v = ap (λ (k : ℕ). l2 g x′ k b) (sym (kept-tab a aL t)) ∙ entry-new g K ok x (p .fine .sound) x′ (lay .small) a b v aL bE some alone (q .good) lv (lay .stored) in
             rw (e .0, e .1, y) (inr w)
         go (inr e) =
             let y : l2 g x′ (tab g K m i) j ≡ l2 g x (tab g K m i) j =
-            ap (λ (k : ℕ). l2 g x′ k j) (sym (kept-tab i l d)) ∙ entry-l2 g K ok x (p .fine .sound) x′ sm a b v aL bE some alone (q .good) lv st i j l n e (λ z. d (sym (kept-tab i l d) ∙ z))
+            ap (λ (k : ℕ). l2 g x′ k j) (sym (kept-tab i l d)) ∙ entry-l2 g K ok x (p .fine .sound) x′ (lay .small) a b v aL bE some alone (q .good) lv (lay .stored) i j l n e (λ z. d (sym (kept-tab i l d) ∙ z))
             ∙ ap (λ (k : ℕ). l2 g x k j) (kept-tab i l d) in
             rw y (h i j l n d)
 
@@ -85,21 +77,11 @@ module _ (g : Geo) (K : Codec) (ok : GeoOk g K) (m0 : ℕ → ℕ → ℕ) (img 
     unfolding apply entryStore
     entered = rw (kept-tab a aL t) at shows′
 
-  row-fix : (i : ℕ) → i < g .L → Has g i → 1 ≤ fix g m (row g i)
-  row-fix i l hi = fix-l1 g m (row g i) (i / g .M) (i % g .M / g .E) (omega (arith, tree-in g K ok i l)) (row-in g K ok i l hi) refl
-
-  row-one : (i : ℕ) → i < g .L → Has g i → refsOf g K m (row g i) ≤ 1
-  row-one i l hi = k0 .sound .inv .fixed (row g i) (row-N g K ok i l hi) (row-fix i l hi)
-
-  row-some : (i : ℕ) → i < g .L → Has g i → row g i ≢ 0
-  row-some i l hi =
-      l1-0 g m (row g i) (i / g .M) (i % g .M / g .E) (omega (arith, tree-in g K ok i l)) (row-in g K ok i l hi) (fix-one g K ok m (k0 .sound) (row g i) (row-N g K ok i l hi)) refl
-
   written-shows : (u : Store) → Written u → (s : List ℕ) → Joined g K ok m0 img k0 role s → Shows s → Shows (apply (g .C) u s)
   unfolding l2 linkStore
   written-shows u (joins a t aL ha tN t0 z act free used) s p w i j l n d =
       rw (num-cong 8 _ _ (8 * j) (λ y b e. apply-apart (g .C) (g .N) (tab g K m i) _ s (linking-fit g K ok m0 img k0 role _ (links a t aL ha tN t0 z act free used)) (p .fine .len)
-      (λ h. fix-tab (g .L) (g .E) (fix g m) (tab g K m) (dat g K m) (row g a) i l (row-some a aL ha) (row-one a aL ha) (row-fix a aL ha) (sym h)) y (omega (arith, ok .c8)))) (w i j l n d)
+      (λ h. fix-tab (g .L) (g .E) (fix g m) (tab g K m) (dat g K m) (row g a) i l (row-some g K ok m0 img k0 a aL ha) (row-one g K ok m0 img k0 a aL ha) (row-fix g K ok m a aL ha) (sym h)) y (omega (arith, ok .c8)))) (w i j l n d)
   written-shows u (writes a b v aL bE lv t one q w) s p h i j l n d = entered s p h a b v aL bE lv t one q w i j l n d
 
   both-kept : {us : List Store} → Each Written us → (cs : List Bool) (s : List ℕ) → Joined g K ok m0 img k0 role s × Shows s
@@ -123,13 +105,10 @@ module _ (g : Geo) (K : Codec) (ok : GeoOk g K) (m0 : ℕ → ℕ → ℕ) (img 
   data-linking i j iL jE d u (enters a b v aL bE lv t one q) e = tab-dat (g .L) (g .E) (fix g m₀) (tab g K m₀) (dat g K m₀) a i j aL iL jE t one (sym e)
   data-linking i j iL jE d u (links a t aL ha tN t0 z act free used) e =
       fix-dat (g .L) (g .E) (fix g m₀) (tab g K m₀) (dat g K m₀) (row g a) i j iL jE
-      (row-some g K ok m0 img k0 role (λ x y z. Unit) a aL ha) (row-one g K ok m0 img k0 role (λ x y z. Unit) a aL ha) (row-fix g K ok m0 img k0 role (λ x y z. Unit) a aL ha) (sym e)
+      (row-some g K ok m0 img k0 a aL ha) (row-one g K ok m0 img k0 a aL ha) (row-fix g K ok m₀ a aL ha) (sym e)
 
   data-block : (i j : ℕ) → i < g .L → j < g .E → dat g K m₀ i j ≢ 0 → (b : ℕ) → b < g .B → dat g K m₀ i j ≢ blk g m₀ b
-  data-block i j iL jE d b h e =
-      let w : 1 ≤ fix g m₀ (blk g m₀ b) = fix-blk g m₀ (blk g m₀ b) b h refl in
-      fix-dat (g .L) (g .E) (fix g m₀) (tab g K m₀) (dat g K m₀) (blk g m₀ b) i j iL jE
-      (blk-0 g m₀ (blk g m₀ b) b h (fix-one g K ok m₀ (k0 .sound) _ (k0 .sound .blkin b h)) refl) (k0 .sound .inv .fixed _ (k0 .sound .blkin b h) w) w (sym e)
+  data-block i j iL jE d b h e = data-aside g K ok m0 img k0 i j iL jE b h (sym e)
 
   -- ---- one cut
   module _ (cs : List Bool) where

@@ -5,23 +5,22 @@ use mathlib.Core.List.{List, [], _∷_}
 use Prim.Native.Nat.{ℕ, _+_, _*_, _^_, _≤_, _<_}
 use native.Mathlib.Decide.{ℕ-discrete}
 use native.Mathlib.Omega.{arith}
-use lib.ListN.{length}
 use lib.Seq.{sets}
-use Rattle.cuts.proofs.Refs.{fix-tab, hit, hit-self, hit-other, hit-zero, refs-tab, free-dat}
-use Rattle.cuts.proofs.Cell.{enc, length-enc, small-enc, Stored, mem}
-use Rattle.cuts.proofs.Meta.{Geo, GeoOk, Codec, fix-blk, blk-0, blk, cnt, l1, fix, tab, dat, refsOf, keep-tab, keep-refs}
-use Rattle.cuts.proofs.Step.{fix-one, tab-in, free-not-0, entry-tab, entry-cnt, entry-refs}
+use Rattle.cuts.proofs.Refs.{fix-tab, hit, hit-other, hit-zero, free-dat}
+use Rattle.cuts.proofs.Cell.{enc, small-enc, mem}
+use Rattle.cuts.proofs.Meta.{Geo, GeoOk, Codec, fix-blk, blk-0, blk, cnt, fix, tab, dat, refsOf, keep-tab, keep-refs}
+use Rattle.cuts.proofs.Step.{fix-one, free-not-0, entry-tab, entry-cnt, entry-refs}
 use Rattle.cuts.proofs.Run.{Store, apply, applyAll, Each, none, also}
-use Rattle.cuts.proofs.Call.{Ok, countStore, entryStore, next-small, next-stored, CountSet, then-count, one-fits}
-use Rattle.batches.proofs.Mixture.{linked-free, Use, unused, table, kind, used-table, Linked, Place, Put, mix-tab}
+use Rattle.cuts.proofs.Call.{Ok, countStore, entryStore, CountSet, then-count, one-fits}
+use Rattle.batches.proofs.Mixture.{mix-free, Use, unused, table, kind, used-table, Place, Put}
 use Rattle.batches.proofs.Prepared.{Ready, counts, spare, Raises, here}
 use Rattle.batches.proofs.Joined.{Linking, enters}
 use Rattle.batches.proofs.Lists.{Fit, Merge}
-use Rattle.batches.proofs.Stores.{keep-mixture, entry-mixture}
-use Rattle.batches.proofs.Planned.{Tabled, keep-tabled, Planned, lowers, blk-eq, tab-eq}
+use Rattle.batches.proofs.Stores.{Laid, laid-entry, keep-mixture, entry-mixture}
+use Rattle.batches.proofs.Planned.{Tabled, keep-tabled, Planned, lowers, blk-eq}
 use Rattle.batches.proofs.Order.{cellAt, Cell, Touch, sets as setsCount, passes, aside-cell}
 use Rattle.batches.proofs.Extend.{Step, Grows, grow-mix, merge-all-left, merge-all-right}
-use Rattle.batches.proofs.Places.{one-before}
+use Rattle.batches.proofs.Places.{one-table}
 
 unfoldable either : {A : Type 0} → Dec A → Use → Use → Use
 either (yes a) u v = u
@@ -181,36 +180,20 @@ module _ (g : Geo) (K : Codec) (ok : GeoOk g K) (m0 : ℕ → ℕ → ℕ) (img 
   module _ (i j v : ℕ) (iL : i < g .L) (jE : j < g .E) (lv : v < 256 ^ 8) (some : tab g K x i ≢ 0) (alone : refsOf g K x (tab g K x i) ≤ 1) (q : Put g K m role i j v)
       (alive : (c : ℕ) → dead c → c ≢ 0 → c ≡ K .clus v → c ≡ dat g K x i j)
       (fine : Ok g K m0 (apply (g .C) (entryStore g (tab g K x i) j v) s)) where
-    tN : tab g K x i < g .N
-    tN = tab-in g K ok x (p .fine .sound) i iL
-
-    fits : 8 * j + length (enc 8 v) ≤ g .C
-    fits = omega (arith, ok .c8, length-enc 8 v)
+    lay : Laid g s (tab g K x i) (8 * j) v
+    lay = laid-entry g K ok m0 s (p .fine) i j v iL jE
 
     abbrev x′ : ℕ → ℕ → ℕ
     x′ = mem (g .C) (sets s (tab g K x i * g .C + 8 * j) (enc 8 v))
 
-    sm : (a y : ℕ) → x′ a y < 256
-    sm = next-small g K ok m0 s (p .fine) (tab g K x i) (8 * j) (enc 8 v) tN fits (small-enc 8 v)
-
-    st : Stored (g .C) x x′ (tab g K x i) (8 * j) (enc 8 v)
-    st = next-stored g K ok m0 s (p .fine) (tab g K x i) (8 * j) (enc 8 v) tN fits (small-enc 8 v)
-
     is-before : (d : Dec (tab g K m i ≡ 0)) → Each (Ready g K ok m0 img) (before d (entryStore g (tab g K x i) j v))
     unfolding entryStore
     is-before (no d) = none
-    is-before (yes z) = also (spare (tab g K x i) (8 * j) (enc 8 v) tN fits (small-enc 8 v) (go (p .mix .l1s i iL))) none
-      where
-        go : (l1 g x i ≡ l1 g m i) ⊎ Linked g K m role i (l1 g x i) → refsOf g K m (tab g K x i) ≡ 0
-        go (inl e) = absurd (some (tab-eq g K x m i e ∙ z))
-        go (inr k) = linked-free g K m role x i k
+    is-before (yes z) = also (spare (tab g K x i) (8 * j) (enc 8 v) (lay .in-image) (lay .in-cluster) (small-enc 8 v) (mix-free g K ok m x role (k0 .sound) (p .mix) i iL z some)) none
 
     is-among : (d : Dec (tab g K m i ≡ 0)) → Each (Linking g K ok m0 img k0 role) (among d (entryStore g (tab g K x i) j v))
     is-among (yes z) = none
-    is-among (no d) =
-        let e : tab g K x i ≡ tab g K m i = mix-tab g K ok m x role (k0 .sound) (p .mix) i iL d .1 in
-        let h : 1 ≤ refsOf g K m (tab g K m i) = omega (arith, refs-tab (g .L) (g .E) (fix g m) (tab g K m) (dat g K m) (tab g K m i) i iL, hit-self (tab g K m i) d) in
-        rw e (also (enters i j v iL jE lv d (one-before g K ok m0 img k0 role x (p .mix) (tab g K m i) h (rw e at alone)) q) none)
+    is-among (no d) = let e = one-table g K ok m0 img k0 role x (p .mix) i iL d alone in rw (e .0) (also (enters i j v iL jE lv d (e .1) q) none)
 
     merged : (d : Dec (tab g K m i ≡ 0)) → Merge (before d (entryStore g (tab g K x i) j v)) (among d (entryStore g (tab g K x i) j v)) (entryStore g (tab g K x i) j v ∷ [])
     merged (yes z) = merge-all-left _
@@ -219,7 +202,7 @@ module _ (g : Geo) (K : Codec) (ok : GeoOk g K) (m0 : ℕ → ℕ → ℕ) (img 
     -- the old place loses a reference and the new one gets one
     pub entry-moved : (c : ℕ) → refsOf g K (mem (g .C) (apply (g .C) (entryStore g (tab g K x i) j v) s)) c + hit c (dat g K x i j) ≡ refsOf g K x c + hit c (K .clus v)
     unfolding apply entryStore
-    entry-moved = entry-refs g K ok x (p .fine .sound) x′ sm i j v iL jE some alone (q .good) lv st
+    entry-moved = entry-refs g K ok x (p .fine .sound) x′ (lay .small) i j v iL jE some alone (q .good) lv (lay .stored)
 
     aside : (b : ℕ) → b < g .B → blk g m b ≢ tab g K x i
     aside b h =
@@ -230,7 +213,7 @@ module _ (g : Geo) (K : Codec) (ok : GeoOk g K) (m0 : ℕ → ℕ → ℕ) (img 
 
     fit : Fit (g .C) (g .N) (entryStore g (tab g K x i) j v)
     unfolding entryStore
-    fit = record { inN = tN; inC = λ k. fits; local = λ k k′ e. refl }
+    fit = record { inN = lay .in-image; inC = λ k. lay .in-cluster; local = λ k k′ e. refl }
 
     touched : (d : Dec (tab g K m i ≡ 0)) → Each (Touch g K ok m0 img k0 (λ c. dead c → ⊥)) (before d (entryStore g (tab g K x i) j v))
     unfolding entryStore
@@ -256,7 +239,7 @@ module _ (g : Geo) (K : Codec) (ok : GeoOk g K) (m0 : ℕ → ℕ → ℕ) (img 
           second = merge-all-left _;
           is = refl;
           fine = fine;
-          mix = entry-mixture g K ok m role x x′ (p .fine .sound) (p .mix) sm i j v iL jE some alone lv q st;
+          mix = entry-mixture g K ok m role x x′ (p .fine .sound) (p .mix) (lay .small) i j v iL jE some alone lv q (lay .stored);
           ready = is-before d;
           linking = is-among d;
           falling = none;
@@ -266,7 +249,7 @@ module _ (g : Geo) (K : Codec) (ok : GeoOk g K) (m0 : ℕ → ℕ → ℕ) (img 
           stays = λ a b d. same-tab a b;
           touch = touched d;
           order = λ a b. ordered d a b;
-          counted = λ a b. rw (entry-cnt g K ok x (p .fine .sound) x′ sm i j v iL jE some alone (q .good) lv st a b) (p .counted a b);
+          counted = λ a b. rw (entry-cnt g K ok x (p .fine .sound) x′ (lay .small) i j v iL jE some alone (q .good) lv (lay .stored) a b) (p .counted a b);
         }
       where
         moved : (c : ℕ) → refsOf g K x′ c + hit c (dat g K x i j) ≡ refsOf g K x c + hit c (K .clus v)
@@ -278,7 +261,7 @@ module _ (g : Geo) (K : Codec) (ok : GeoOk g K) (m0 : ℕ → ℕ → ℕ) (img 
         less c n (yes e) (no z) = omega (arith, moved c, ap (hit c) (sym e), ap (hit c) (sym (alive c n z e)))
 
         same-tab : (a : ℕ) → a < g .L → tab g K x′ a ≡ tab g K x a
-        same-tab = entry-tab g K ok x (p .fine .sound) x′ sm i j v iL jE some alone (q .good) lv st
+        same-tab = entry-tab g K ok x (p .fine .sound) x′ (lay .small) i j v iL jE some alone (q .good) lv (lay .stored)
 
         -- the place is no new table
         not-table : (t a : ℕ) → t < g .N → role t ≡ table a → t ≢ 0 → Place g K m role i j (K .clus v) → t ≢ K .clus v

@@ -13,7 +13,7 @@ use Rattle.cuts.proofs.Refs.{fix-tab}
 use Rattle.cuts.proofs.Cell.{mem}
 use Rattle.cuts.proofs.Meta.{Geo, GeoOk, Codec, blk, fix, tab, dat, blk-0, blk-l1, fix-blk, tree-in, row-in}
 use Rattle.cuts.proofs.Step.{fix-one}
-use Rattle.cuts.proofs.Run.{Store, applyAll}
+use Rattle.cuts.proofs.Run.{Each, Store, applyAll}
 use Rattle.cuts.proofs.Call.{Ok, entryStore, linkStore}
 use Rattle.batches.proofs.Mixture.{Use}
 use Rattle.batches.proofs.Joined.{Linking, enters, links}
@@ -42,16 +42,21 @@ module _ (g : Geo) (K : Codec) (ok : GeoOk g K) (m0 : ℕ → ℕ → ℕ) (img 
   fine = subst (λ (us : List Store). Ok g K m0 (applyAll (g .C) us late)) (picked-whole f) (cut-after g K ok m0 img k0 role dead r l f s p settled (replicate (length f) true) .fine)
 
   -- entries lie in no block
-  linking-passes : (u : Store) → Linking g K ok m0 img k0 role u → Touch g K ok m0 img k0 (λ c. ⊥) u
+  pub linking-aside : (u : Store) → Linking g K ok m0 img k0 role u → (b : ℕ) → b < g .B → blk g m b ≢ u .w
   unfolding entryStore linkStore
-  linking-passes u (enters i j v iL jE lv t one q) =
-      passes _ (linking-fit g K ok m0 img k0 role _ (enters i j v iL jE lv t one q))
-      (λ b h. let w : 1 ≤ fix g m (blk g m b) = fix-blk g m (blk g m b) b h refl in
+  linking-aside u (enters i j v iL jE lv t one q) b h =
+      let w : 1 ≤ fix g m (blk g m b) = fix-blk g m (blk g m b) b h refl in
       fix-tab (g .L) (g .E) (fix g m) (tab g K m) (dat g K m) (blk g m b) i iL (blk-0 g m (blk g m b) b h (fix-one g K ok m (k0 .sound) _ (k0 .sound .blkin b h)) refl)
-      (k0 .sound .inv .fixed _ (k0 .sound .blkin b h) w) w)
-  linking-passes u (links i t iL hi tN t0 z act free used) =
-      passes _ (linking-fit g K ok m0 img k0 role _ (links i t iL hi tN t0 z act free used))
-      (λ b h. blk-l1 g m (blk g m b) b (i / g .M) (i % g .M / g .E) h (omega (arith, tree-in g K ok i iL)) (row-in g K ok i iL hi) (fix-one g K ok m (k0 .sound) _ (k0 .sound .blkin b h)) refl)
+      (k0 .sound .inv .fixed _ (k0 .sound .blkin b h) w) w
+  linking-aside u (links i t iL hi tN t0 z act free used) b h =
+      blk-l1 g m (blk g m b) b (i / g .M) (i % g .M / g .E) h (omega (arith, tree-in g K ok i iL)) (row-in g K ok i iL hi) (fix-one g K ok m (k0 .sound) _ (k0 .sound .blkin b h)) refl
+
+  linking-passes : (u : Store) → Linking g K ok m0 img k0 role u → Touch g K ok m0 img k0 (λ c. ⊥) u
+  linking-passes u h = passes _ (linking-fit g K ok m0 img k0 role u h) (linking-aside u h)
+
+  -- so no entry lies where counts fall
+  pub entries-apart : Each (λ (y : Store). Each (λ (v : Store). v .w ≢ y .w) l) f
+  entries-apart = each-map (λ y w. each-map (λ v h e. lowers-apart g K ok m0 img k0 role dead r l f s p settled (v .w) (λ b n q. linking-aside v h b n (sym q)) y w e) (p .linking)) (p .falling)
 
   wm : Whole (g .C) (g .N) middle
   wm = all-whole (g .C) (g .N) r img (k0 .len)

@@ -1,12 +1,37 @@
--- What stores leave of a mixture of tables. Assumes nothing.
+-- An entry that is stored: what the memory is after it, and what is left of a mixture of tables. Assumes nothing.
 use mathlib.Core.Path.{_≡_, sym, _∙_}
 use mathlib.Core.Logic.{_⊎_, inl, inr, _≢_}
-use Prim.Native.Nat.{ℕ, _*_, _^_, _≤_, _<_}
+use mathlib.Core.List.{List}
+use Prim.Native.Nat.{ℕ, _+_, _*_, _%_, _^_, _≤_, _<_}
+use native.Mathlib.Nat.{mod-lt}
 use native.Mathlib.Decide.{ℕ-discrete}
-use Rattle.cuts.proofs.Cell.{enc, Stored}
-use Rattle.cuts.proofs.Meta.{Geo, GeoOk, Codec, row, col, Has, l1, l2, tab, refsOf, Sound, Keep, keep-tab}
-use Rattle.cuts.proofs.Step.{pair-or, entry-rt, entry-l1, entry-tab, entry-l2, entry-new, link-rt, link-l1, link-l1-new, link-tab, link-tab-new, link-l2}
+use native.Mathlib.Omega.{arith}
+use lib.ListN.{length}
+use lib.Seq.{sets}
+use Rattle.cuts.proofs.Cell.{enc, length-enc, small-enc, Stored, mem}
+use Rattle.cuts.proofs.Meta.{Geo, GeoOk, Codec, row, col, Has, l1, l2, tab, refsOf, Sound, Keep, keep-tab, row-N}
+use Rattle.cuts.proofs.Step.{tab-in, pair-or, entry-rt, entry-l1, entry-tab, entry-l2, entry-new, link-rt, link-l1, link-l1-new, link-tab, link-tab-new, link-l2}
+use Rattle.cuts.proofs.Call.{Ok, next-small, next-stored}
 use Rattle.batches.proofs.Mixture.{Use, table, Linked, Put, Old, Mixture}
+
+-- the number v, stored in 8 bytes at o of cluster w
+pub record Laid (g : Geo) (s : List ℕ) (w o v : ℕ) : Type 0 where
+  pub in-image : w < g .N
+  pub in-cluster : o + length (enc 8 v) ≤ g .C
+  pub small : (a y : ℕ) → mem (g .C) (sets s (w * g .C + o) (enc 8 v)) a y < 256
+  pub stored : Stored (g .C) (mem (g .C) s) (mem (g .C) (sets s (w * g .C + o) (enc 8 v))) w o (enc 8 v)
+
+module _ (g : Geo) (K : Codec) (ok : GeoOk g K) (m0 : ℕ → ℕ → ℕ) (s : List ℕ) (k : Ok g K m0 s) where
+  laid : (w o v : ℕ) → w < g .N → o + 8 ≤ g .C → Laid g s w o v
+  laid w o v n h =
+      let f : o + length (enc 8 v) ≤ g .C = omega (arith, length-enc 8 v) in
+      record { in-image = n; in-cluster = f; small = next-small g K ok m0 s k w o (enc 8 v) n f (small-enc 8 v); stored = next-stored g K ok m0 s k w o (enc 8 v) n f (small-enc 8 v) }
+
+  pub laid-entry : (i j v : ℕ) → i < g .L → j < g .E → Laid g s (tab g K (mem (g .C) s) i) (8 * j) v
+  laid-entry i j v l n = laid (tab g K (mem (g .C) s) i) (8 * j) v (tab-in g K ok (mem (g .C) s) (k .sound) i l) (omega (arith, ok .c8))
+
+  pub laid-link : (i v : ℕ) → i < g .L → Has g i → Laid g s (row g i) (8 * col g i) v
+  laid-link i v l h = laid (row g i) (8 * col g i) v (row-N g K ok i l h) (omega (arith, ok .c8, mod-lt (i % g .M) (ok .epos)))
 
 module _ (g : Geo) (K : Codec) (ok : GeoOk g K) (m : ℕ → ℕ → ℕ) (role : ℕ → Use) (x x′ : ℕ → ℕ → ℕ) (sx : Sound g K x) (w : Mixture g K m role x) where
   -- the tables stay

@@ -13,7 +13,7 @@ use Rattle.cuts.proofs.Step.{free-not-0, steps-apart}
 use Rattle.cuts.proofs.Run.{Store, apply, applyAll, fill}
 use Rattle.cuts.proofs.Call.{Ok, countStore, entryStore, linkStore, next-stored}
 use Rattle.cuts.proofs.Write.{zeros-at, keep-trans, small-replicate, num-zeros}
-use Rattle.batches.proofs.Mixture.{Use, table, datum, kind, upper, used-table, used-datum, Linked, Put}
+use Rattle.batches.proofs.Mixture.{Use, table, datum, kind, upper, used-table, used-datum, Linked, Put, put-new}
 use Rattle.batches.proofs.Planned.{Planned, Settled, tab-eq}
 use Rattle.batches.proofs.Extend.{Step, extend, compose}
 use Rattle.batches.proofs.Steps.{assign, assign-same, assign-other}
@@ -161,16 +161,7 @@ module _ (g : Geo) (K : Codec) (ok : GeoOk g K) (m0 : ℕ → ℕ → ℕ) (img 
   filled b n = go (ℕ-discrete b j)
     where
       go : Dec (b ≡ j) → Put g K m role₂ i b (l2 g (mem (g .C) s₃) t b)
-      go (yes e) =
-          rw (e, entry-c)
-          (record {
-            active = act;
-            good = ok .laws .mk-good2 c cN c0;
-            own = λ d. ok .laws .mk-own c cN;
-            plain = λ d. ok .laws .mk-flag c cN;
-            left = no-data j;
-            place = inr (inr (rw mc (free-c₀, assign-same role₁ c (datum i j))));
-          })
+      go (yes e) = rw (e, entry-c) (put-new g K ok m role₂ i j c act cN c0 (no-data j) (inr (inr (free-c₀, assign-same role₁ c (datum i j)))))
       go (no d) =
           rw (entry-0 b n d)
           (record { active = act; good = ok .laws .zero-good2; own = λ y. absurd (y (ok .laws .zero-clus)); plain = λ y. ok .laws .zero-flag; left = no-data b; place = inl (ok .laws .zero-clus) })

@@ -97,7 +97,7 @@ module _ (g : Geo) (K : Codec) (ok : GeoOk g K) (m0 : ℕ → ℕ → ℕ) (img 
       go (inl o) = flagged (mark-some g K x i j some ∙ ap (K .flag) (o .entry) ∙ sym (mark-some g K m i j (o .some)) ∙ z)
       go (inr q) = flagged (mark-some g K x i j some ∙ q .plain (λ y. d (dat-some g K x i j some ∙ y)))
 
-  filled : Home g K ok m0 img k0 role i j c → Each (Hidden g K ok m0 img) (fill c 0 A)
+  pub filled : Home g K ok m0 img k0 role i j c → Each (Hidden g K ok m0 img) (fill c 0 A)
   filled (old e d₀ one₀) = rw e (marked-fill g K ok m0 img k0 past i j 0 A iL jE lA smA d₀ one₀ (marked-before e))
   filled (new z e) = hidden-fill g K ok m0 img k0 past c 0 A inN lA smA z
 

@@ -10,7 +10,7 @@ use Rattle.cuts.proofs.Meta.{Geo, GeoOk, Codec, cnt, tab, dat, refsOf, Keep, ke
 use Rattle.cuts.proofs.Step.{free-not-0}
 use Rattle.cuts.proofs.Run.{Store, apply, applyAll, fill}
 use Rattle.cuts.proofs.Call.{Ok, countStore, entryStore}
-use Rattle.batches.proofs.Mixture.{Use, table, datum, kind, used-datum, Put}
+use Rattle.batches.proofs.Mixture.{Use, table, datum, kind, used-datum, Put, put-new}
 use Rattle.batches.proofs.Planned.{Planned}
 use Rattle.batches.proofs.Extend.{Step, compose}
 use Rattle.batches.proofs.Steps.{assign, assign-same, before, among, entry-step}
@@ -51,15 +51,7 @@ module _ (g : Geo) (K : Codec) (ok : GeoOk g K) (m0 : ℕ → ℕ → ℕ) (img 
       mc = ok .laws .mk-clus c cN
 
       pub value : Put g K m given i j (K .mk c)
-      value =
-          record {
-            active = act;
-            good = ok .laws .mk-good2 c cN c0;
-            own = λ d. ok .laws .mk-own c cN;
-            plain = λ d. ok .laws .mk-flag c cN;
-            left = left-of g K ok m0 img k0 role dead r l f s p i j iL jE act some (λ d. absurd (d none));
-            place = inr (inr (rw mc (gone, assign-same role c (datum i j))));
-          }
+      value = put-new g K ok m given i j c act cN c0 (left-of g K ok m0 img k0 role dead r l f s p i j iL jE act some (λ d. absurd (d none))) (inr (inr (gone, assign-same role c (datum i j))))
 
       same : tab g K (mem (g .C) t₂) i ≡ tab g K x i
       same = keep-tab g K ok x (mem (g .C) t₂) kept₂ i iL

@@ -1,0 +1,4 @@
+pub mod Batch
+pub mod Series
+pub mod Rows
+pub mod Told
