@@ -171,6 +171,8 @@ extern "C" {
 #define QCOW2_MARK_L2 1012u
 /* The check is not finished yet (check in portions). */
 #define QCOW2_MORE 1013u
+/* The batch has to be stored before this call (batches). */
+#define QCOW2_BATCH_ENDS 1014u
 
 /* ---- The header ---------------------------------------------------------- */
 
@@ -380,6 +382,61 @@ uint32_t qcow2_backed_repair_steps(const uint8_t *image, size_t n, const uint8_t
                                    uint8_t *scratch, size_t scratch_len, uint64_t *rows, size_t m,
                                    uint64_t *count);
 
+/* ---- Batches -------------------------------------------------------------
+ *
+ * For a store that runs several calls in memory and stores them together, with
+ * three flushes for all. The rows are the batch: held of them, four numbers each,
+ * as steps have them, but for the last:
+ *
+ *   where its bytes begin in the image, how many they are, how many units
+ *   its phase: 0 clears the autoclear field; 1 makes ready: counts that rise,
+ *     bytes, and entries in bytes that the batch has in phase 1; 2: all other
+ *     entries; 3: counts that fall
+ *
+ * A batch begins with held = 0, on an image that a check calls sound or leaking
+ * and that is what the file holds. Each call is planned first, on the image as it
+ * will be handed it, and then made in memory to its end, with UINT64_MAX as
+ * allowance:
+ *
+ *   QCOW2_DONE        *count rows are held now: hand that on as held. The call's
+ *                     own come after those that were, phase by phase
+ *   QCOW2_BATCH_ENDS  *count is 0; the call is not in the batch. There is no room
+ *                     for its rows, or a byte would be in phase 1 and in phase 3:
+ *                     it takes a cluster that the batch has freed, or frees one
+ *                     that it has taken. Store the batch, then plan the call again
+ *                     with held = 0. With held = 0 it means that too few rows are
+ *                     lent: 7 are enough for a write, 3 for a discard; a repair
+ *                     has as many as it has steps. Such a call is made by itself,
+ *                     by its steps
+ *   a refusal         the number that the call would be refused with, *count is 0,
+ *                     rows are as they were, and the batch goes on as it is
+ *
+ * After QCOW2_BATCH_ENDS the rows past the held ones may have changed, as far as
+ * there was room; the held ones never do. m numbers are lent, that is m / 4 rows;
+ * more held than there are is QCOW2_BATCH_ENDS. Any numbers may be lent.
+ *
+ * To store it: the bytes of all rows of phase 0, a flush, those of phase 1, a
+ * flush, those of phase 2, a flush, those of phase 3, a flush; a phase with no row
+ * needs none. Within a phase they may be stored in any order, and they may be taken
+ * from the image in memory as the last call left it. When the last flush has
+ * returned, all calls of the batch are safe, and the next batch may begin.
+ */
+
+/* qcow2_write with len bytes, whatever they are. */
+uint32_t qcow2_backed_batch_write(const uint8_t *image, size_t n, const uint8_t *backing, size_t b,
+                                  uint64_t offset, uint64_t len, uint64_t *rows, size_t m,
+                                  uint64_t held, uint64_t *count);
+
+/* qcow2_discard. */
+uint32_t qcow2_backed_batch_discard(const uint8_t *image, size_t n, const uint8_t *backing,
+                                    size_t b, uint64_t cluster, uint64_t *rows, size_t m,
+                                    uint64_t held, uint64_t *count);
+
+/* qcow2_repair. The scratch ends as the repair leaves it. */
+uint32_t qcow2_backed_batch_repair(const uint8_t *image, size_t n, const uint8_t *backing, size_t b,
+                                   uint8_t *scratch, size_t scratch_len, uint64_t *rows, size_t m,
+                                   uint64_t held, uint64_t *count);
+
 /* ---- Checking ------------------------------------------------------------ */
 
 /*
@@ -551,6 +608,28 @@ static inline uint32_t qcow2_repair_steps(const uint8_t *image, size_t n, uint8_
                                           uint64_t *count)
 {
     return qcow2_backed_repair_steps(image, n, image, 0, scratch, scratch_len, rows, m, count);
+}
+
+static inline uint32_t qcow2_batch_write(const uint8_t *image, size_t n, uint64_t offset,
+                                         uint64_t len, uint64_t *rows, size_t m, uint64_t held,
+                                         uint64_t *count)
+{
+    return qcow2_backed_batch_write(image, n, image, 0, offset, len, rows, m, held, count);
+}
+
+static inline uint32_t qcow2_batch_discard(const uint8_t *image, size_t n, uint64_t cluster,
+                                           uint64_t *rows, size_t m, uint64_t held,
+                                           uint64_t *count)
+{
+    return qcow2_backed_batch_discard(image, n, image, 0, cluster, rows, m, held, count);
+}
+
+static inline uint32_t qcow2_batch_repair(const uint8_t *image, size_t n, uint8_t *scratch,
+                                          size_t scratch_len, uint64_t *rows, size_t m,
+                                          uint64_t held, uint64_t *count)
+{
+    return qcow2_backed_batch_repair(image, n, image, 0, scratch, scratch_len, rows, m, held,
+                                     count);
 }
 
 static inline uint32_t qcow2_check(const uint8_t *image, size_t n, uint8_t *scratch, size_t m,

@@ -18,9 +18,10 @@ ghost use Rattle.qcow2_longer.specs.Extend.{extendPlan};
 ghost use Rattle.qcow2_spec.specs.References.{scratchLeft};
 ghost use Rattle.qcow2_spec.specs.Check.{check, repairPlan};
 ghost use Rattle.qcow2_spec.specs.Steps.{listSteps, stepsInto};
+ghost use Rattle.qcow2_batches.specs.Rows.{answered, rowsLeft};
 ghost use Rattle.qcow2_portion.specs.State.{scratchPortion};
 ghost use Rattle.qcow2_kept.specs.Kept.{portionOf, stateOf, keptAfter, answerCode, answerFirst, answerSecond, answerThird};
-ghost use Rattle.qcow2_codes.specs.Codes.{listedCode, listedRows, outcomeCode, outcomeUnits, verdictCode, verdictFirst, verdictSecond, verdictThird};
+ghost use Rattle.qcow2_codes.specs.Codes.{listedCode, listedRows, plannedCode, plannedRows, outcomeCode, outcomeUnits, verdictCode, verdictFirst, verdictSecond, verdictThird};
 use qcow2_spec::Judged;
 
 #[no_mangle]
@@ -272,4 +273,51 @@ pub extern "C" fn qcow2_backed_repair_steps(
 {
     let l = qcow2_steps::repair_steps(image, backing, scratch, rows);
     qcow2_codes::put_listed(l, count)
+}
+
+// A call that is to be made, planned into a batch of which the first `held` of the rows are held: how many there are with its own.
+#[no_mangle]
+pub extern "C" fn qcow2_backed_batch_write(
+    image: &[u8],
+    backing: &[u8],
+    offset: u64,
+    len: u64,
+    rows: &mut [u64],
+    held: u64,
+    count: &mut u64,
+) -> u32
+    ensures { λ r. ⌜ ((d : List ℕ) → length d ≡ len → ((r ≡ plannedCode (answered (now (image .entry)) (writePlan (now (backing .entry)) (now (image .entry)) offset d) held (now (rows .entry)))) × (now (count .exit) ≡ plannedRows (answered (now (image .entry)) (writePlan (now (backing .entry)) (now (image .entry)) offset d) held (now (rows .entry))))) × (now (rows .exit) ≡ rowsLeft (now (image .entry)) (writePlan (now (backing .entry)) (now (image .entry)) offset d) held (now (rows .entry)))) ⌝ }
+{
+    let p = qcow2_planned::batch_write(image, backing, offset, len, rows, held as usize);
+    qcow2_codes::put_planned(p, count)
+}
+
+#[no_mangle]
+pub extern "C" fn qcow2_backed_batch_discard(
+    image: &[u8],
+    backing: &[u8],
+    cluster: u64,
+    rows: &mut [u64],
+    held: u64,
+    count: &mut u64,
+) -> u32
+    ensures { λ r. ⌜ ((r ≡ plannedCode (answered (now (image .entry)) (discardPlan (now (backing .entry)) (now (image .entry)) cluster) held (now (rows .entry)))) × (now (count .exit) ≡ plannedRows (answered (now (image .entry)) (discardPlan (now (backing .entry)) (now (image .entry)) cluster) held (now (rows .entry))))) × (now (rows .exit) ≡ rowsLeft (now (image .entry)) (discardPlan (now (backing .entry)) (now (image .entry)) cluster) held (now (rows .entry))) ⌝ }
+{
+    let p = qcow2_planned::batch_discard(image, backing, cluster, rows, held as usize);
+    qcow2_codes::put_planned(p, count)
+}
+
+#[no_mangle]
+pub extern "C" fn qcow2_backed_batch_repair(
+    image: &[u8],
+    backing: &[u8],
+    scratch: &mut [u8],
+    rows: &mut [u64],
+    held: u64,
+    count: &mut u64,
+) -> u32
+    ensures { λ r. ⌜ ((r ≡ plannedCode (answered (now (image .entry)) (repairPlan (now (backing .entry)) (now (image .entry)) (length (now (scratch .entry)))) held (now (rows .entry)))) × (now (count .exit) ≡ plannedRows (answered (now (image .entry)) (repairPlan (now (backing .entry)) (now (image .entry)) (length (now (scratch .entry)))) held (now (rows .entry))))) × ((now (rows .exit) ≡ rowsLeft (now (image .entry)) (repairPlan (now (backing .entry)) (now (image .entry)) (length (now (scratch .entry)))) held (now (rows .entry))) × (now (scratch .exit) ≡ scratchLeft (now (backing .entry)) (now (image .entry)) (now (scratch .entry)))) ⌝ }
+{
+    let p = qcow2_planned::batch_repair(image, backing, scratch, rows, held as usize);
+    qcow2_codes::put_planned(p, count)
 }

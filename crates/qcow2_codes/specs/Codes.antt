@@ -7,6 +7,8 @@ use Rattle.units.specs.declared.Outcome.{Outcome}
 use Rattle.units.specs.declared.Outcome.the-variants.{Finished, Stopped, Refused as NotDone}
 use Rattle.qcow2_spec.specs.declared.Listed.{Listed}
 use Rattle.qcow2_spec.specs.declared.Listed.the-variants.{Refused as NotListed, Rows}
+use Rattle.qcow2_batches.specs.declared.Planned.{Planned}
+use Rattle.qcow2_batches.specs.declared.Planned.the-variants.{Refused as NotPlanned, Ends, Rows as Held}
 use Rattle.qcow2_spec.specs.declared.Verdict.{Verdict}
 use Rattle.qcow2_spec.specs.declared.Verdict.the-variants.{Sound, Leaks, BadL1, BadL2, Shared, Short, MarkL1, MarkL2, Refused as NotChecked}
 
@@ -18,6 +20,17 @@ listedCode (Rows n) = 0
 abbrev pub listedRows : Listed → ℕ
 listedRows (NotListed k) = 0
 listedRows (Rows n) = n
+
+-- a call planned into a batch: 0, that the batch ends, or the number; and how many rows the batch holds
+abbrev pub plannedCode : Planned → ℕ
+plannedCode (NotPlanned k) = k
+plannedCode Ends = 1014
+plannedCode (Held n) = 0
+
+abbrev pub plannedRows : Planned → ℕ
+plannedRows (NotPlanned k) = 0
+plannedRows Ends = 0
+plannedRows (Held n) = n
 
 -- a write, discard or repair: 0 finished, stopped, or the number; and the units spent
 abbrev pub outcomeCode : Outcome → ℕ

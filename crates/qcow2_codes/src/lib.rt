@@ -3,7 +3,8 @@ ghost use mathlib.Core.Path.{_≡_};
 ghost use Prim.Native.Nat.{_-_};
 ghost use lib.Dec.{eqb};
 ghost use Rattle.choice.specs.Pick.{if_then_else_};
-ghost use Rattle.qcow2_codes.specs.Codes.{listedCode, listedRows, outcomeCode, outcomeUnits, verdictCode, verdictFirst, verdictSecond, verdictThird};
+ghost use Rattle.qcow2_codes.specs.Codes.{listedCode, listedRows, plannedCode, plannedRows, outcomeCode, outcomeUnits, verdictCode, verdictFirst, verdictSecond, verdictThird};
+use qcow2_batches::Planned;
 use qcow2_spec::Listed;
 use qcow2_spec::Verdict;
 use units::Outcome;
@@ -23,6 +24,26 @@ fn listed_rows(l: Listed) -> u64
     match l {
         Listed::Refused(_) => 0,
         Listed::Rows(n) => n as u64,
+    }
+}
+
+fn planned_code(p: Planned) -> u32
+    ensures { λ r. ⌜ r ≡ plannedCode p ⌝ }
+{
+    match p {
+        Planned::Refused(k) => k as u32,
+        Planned::Ends => 1014,
+        Planned::Rows(_) => 0,
+    }
+}
+
+fn planned_rows(p: Planned) -> u64
+    ensures { λ r. ⌜ r ≡ plannedRows p ⌝ }
+{
+    match p {
+        Planned::Refused(_) => 0,
+        Planned::Ends => 0,
+        Planned::Rows(n) => n as u64,
     }
 }
 
@@ -133,6 +154,13 @@ pub fn put_listed(l: Listed, count: &mut u64) -> u32
 {
     *count = listed_rows(l);
     listed_code(l)
+}
+
+pub fn put_planned(p: Planned, count: &mut u64) -> u32
+    ensures { λ r. ⌜ (r ≡ plannedCode p) × (now (count .exit) ≡ plannedRows p) ⌝ }
+{
+    *count = planned_rows(p);
+    planned_code(p)
 }
 
 pub fn put_outcome(o: Outcome, units: &mut u64) -> u32

@@ -6,7 +6,7 @@ use mathlib.Core.List.{List, [], _∷_, _++_}
 use lib.ListN.{length}
 use Rattle.choice.specs.Pick.{if_then_else_}
 use Rattle.endian.specs.Big.{splice}
-use Rattle.widths.specs.Width.{Inside}
+use Rattle.widths.specs.Width.{Inside, number}
 use Rattle.units.specs.Units.{UnitStore, count, entry, fill, cluster}
 use Rattle.units.specs.Plan.{Plan, refused, units}
 use Rattle.qcow2_spec.specs.Entries.{newEntry}
@@ -43,10 +43,22 @@ abbrev pub DecisionIn : (n c : ℕ) → Decision → Type 0
 DecisionIn n c (Refuse k) = Unit {0}
 DecisionIn n c (Store j) = JobIn n c j
 
+-- the counts that it sets are 0 in the image s, and the entry of a new table lies in it
+abbrev pub JobFresh : (s : List ℕ) → (c : ℕ) → Job → Type 0
+JobFresh s c (Bytes p) = Unit {0}
+JobFresh s c (Marked a p) = Unit {0}
+JobFresh s c (New m r n a p) = number (2 ^ r) s n ≡ 0
+JobFresh s c (Table p) = ((number (2 ^ p .order) s (p .tablecount) ≡ 0) × (number (2 ^ p .order) s (p .datacount) ≡ 0)) × ((p .table ≤ p .slot) × (p .slot + 8 ≤ p .table + c))
+
+abbrev pub DecisionFresh : (s : List ℕ) → (c : ℕ) → Decision → Type 0
+DecisionFresh s c (Refuse k) = Unit {0}
+DecisionFresh s c (Store j) = JobFresh s c j
+
 -- the decision for a guest cluster of the image s is the plan, whatever the data and the bytes of the backing file, and lies in the image
 pub record Decides (s : List ℕ) (c guest : ℕ) (x : Decision) (plan : (backing : List ℕ) → (o : ℕ) → List ℕ → Plan) : Type 0 where
   pub same : (backing : List ℕ) (o : ℕ) (d : List ℕ) → jobPlan x c o (backingCluster backing s guest) d ≡ plan backing o d
   pub inside : DecisionIn (length s) c x
+  pub fresh : DecisionFresh s c x
 
 -- ---- a discard
 abbrev pub freedUnits : Freed → List UnitStore

@@ -20,6 +20,8 @@ use Rattle.qcow2_spec.specs.Series.{Bytes}
 use Rattle.qcow2_spec.specs.Opened.{Opened}
 use Rattle.qcow2_spec.specs.declared.Geometry.{Geometry}
 use Rattle.qcow2_spec.specs.declared.Verdict.the-variants.{Leaks}
+use Rattle.qcow2_spec.proofs.Kept.{cnt-own}
+use Rattle.qcow2_spec.proofs.Verdicts.{figure-own}
 use Rattle.packed_twos.specs.Twos.{figuresIn}
 use Rattle.qcow2_counts.specs.Blocks.{perOf, countPlace, tablePlace}
 use Rattle.qcow2_repair.specs.Leaks.{Figured, Laid, Leaking, mendUnits}
@@ -41,6 +43,7 @@ leaking g s refs m by o f v =
       apart = apart s x k;
       figures = f;
       some = some-leak s x m v k;
+      covered = λ c l. omega (arith, figure-own s x k c l, cnt-own s x c l, k .inv .covered c l);
     }
 
 -- ---- the list of the definition is the one of the code

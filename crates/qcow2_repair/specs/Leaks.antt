@@ -8,7 +8,7 @@ use lib.ListN.{length, getD, take}
 use Rattle.units.specs.Units.{UnitStore}
 use Rattle.tally.specs.Tally.{wide}
 use Rattle.qcow2_spec.specs.Header.{mostBits, mostLength, mostOrder, width, clusters, blocks, tableAt}
-use Rattle.qcow2_spec.specs.Counts.{countAt}
+use Rattle.qcow2_spec.specs.Counts.{countAt, countOf}
 use Rattle.qcow2_spec.specs.References.{figuresOf}
 use Rattle.qcow2_spec.specs.Check.{repairUnits}
 use Rattle.qcow2_spec.specs.Opened.{Opened}
@@ -27,12 +27,13 @@ pub record Apart (s : List ℕ) : Type 0 where
 abbrev pub Figured : (s refs : List ℕ) → Type 0
 Figured s refs = take (2 * clusters s) refs ≡ wide (figuresOf s)
 
--- a leaking image: there is a count to set
+-- a leaking image: there is a count to set, and none is below its figure
 pub record Leaking (g : Geometry) (s refs : List ℕ) : Type 0 where
   pub opened : Opened g s
   pub apart : Apart s
   pub figures : Figured s refs
   pub some : 0 < length (repairUnits s (figuresOf s) 0 (clusters s))
+  pub covered : (k : ℕ) → k < clusters s → getD (figuresOf s) k 0 ≤ countOf s k
 
 -- what setting the counts needs of an image: by its refcount table they lie in it, apart from each other and from that table
 pub record Laid (g : Geometry) (s : List ℕ) : Type 0 where

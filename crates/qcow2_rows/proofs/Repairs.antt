@@ -14,14 +14,14 @@ use Rattle.qcow2_spec.specs.Steps.{join, extents, rowsOf}
 use Rattle.qcow2_rows.specs.Rows.{Puts}
 use Rattle.qcow2_rows.proofs.Laws.{puts-none, puts-then, puts-same}
 
-module _ (s fs : List ℕ) where
+module _ (epoch : ℕ) (s fs : List ℕ) where
   -- those of the m clusters from i on
   abbrev pub rowsFrom : (i m : ℕ) → List ℕ
-  rowsFrom i m = rowsOf 1 (extents (repairUnits s fs i m))
+  rowsFrom i m = rowsOf epoch (extents (repairUnits s fs i m))
 
   -- the row of cluster i's count
   abbrev pub ownRow : ℕ → List ℕ
-  ownRow i = countAt s i / 8 ∷ span (width s) ∷ 1 ∷ 1 ∷ []
+  ownRow i = countAt s i / 8 ∷ span (width s) ∷ 1 ∷ epoch ∷ []
 
   rows-right : (i m : ℕ) → countOf s i ≡ getD fs i 0 → rowsFrom i (suc m) ≡ rowsFrom (suc i) m
   unfolding repairUnits
@@ -63,8 +63,8 @@ module _ (s fs : List ℕ) where
             rest = λ m z u v p. g .rest (suc m) (omega arith) u v (puts-same (rows-wrong i m e) (puts-then w (rw add-one at p)));
           }
 
-pub going-first : (s fs : List ℕ) (n : ℕ) (rows : List ℕ) (k : ℕ) → Going s fs n rows k rows k 0
-going-first s fs n rows k =
+pub going-first : (epoch : ℕ) (s fs : List ℕ) (n : ℕ) (rows : List ℕ) (k : ℕ) → Going epoch s fs n rows k rows k 0
+going-first epoch s fs n rows k =
     record {
       inside = omega arith;
       few = omega arith;

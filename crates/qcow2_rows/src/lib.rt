@@ -35,19 +35,20 @@ pub(crate) fn put_entry(rows: &mut [u64], k: usize, at: usize, epoch: u64) -> us
     put_row(rows, k, at, 8, 1, epoch)
 }
 
+// The bytes of a count of 2 to the power order bits.
+pub fn span_of(order: u32) -> usize
+    requires { ⌜ order ≤ mostOrder ⌝ }
+    ensures { λ r. ⌜ r ≡ span (2 ^ order) ⌝ }
+{
+    (power::power(order) as usize + 7) / 8
+}
+
 // The row of a count of 2 to the power order bits, the lowest of which stands at a place.
 pub(crate) fn put_count(rows: &mut [u64], k: usize, order: u32, at: usize, epoch: u64) -> usize
     requires { ⌜ (k ≤ mostLength) × (order ≤ mostOrder) ⌝ }
     ensures { λ r. ⌜ (r ≡ k + 1) × Puts (at / 8 ∷ span (2 ^ order) ∷ 1 ∷ epoch ∷ []) (now (rows .entry)) k (now (rows .exit)) r ⌝ }
 {
-    put_row(
-        rows,
-        k,
-        at / 8,
-        (power::power(order) as usize + 7) / 8,
-        1,
-        epoch,
-    )
+    put_row(rows, k, at / 8, span_of(order), 1, epoch)
 }
 
 // The row of the clearing unit, where there is one: the first.

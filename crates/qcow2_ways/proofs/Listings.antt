@@ -46,7 +46,7 @@ unfolding steps planUnits epochs stepRows
 steps-some s us = rw (take-append-seam (clearUnits s) us, drop-append-seam (clearUnits s) us)
 
 -- rows that are put in front of all
-put-all : (new out now : List ℕ) (r : ℕ) → Puts new out 0 now r → Put out new now r
+pub put-all : (new out now : List ℕ) (r : ℕ) → Puts new out 0 now r → Put out new now r
 put-all new out now r f = f out [] (record { put = sym (put-none out); many = refl })
 
 pub list-units : (s : List ℕ) (us : List UnitStore) (out t now : List ℕ) (k n : ℕ) (r : Listed) → Puts (rowsOf 0 (extents (clearUnits s))) out 0 t k → Puts (stepRows 1 (halves us)) t k now n

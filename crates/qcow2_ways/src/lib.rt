@@ -47,7 +47,7 @@ pub fn write_way(
         Decision::Store(job) => {
             let k = qcow2_rows::clear_row(image, g, rows);
             let c = qcow2_counts::bytes_of(g.bits);
-            let n = qcow2_rows::jobs::job_rows(rows, k, job, c, o, len);
+            let n = qcow2_rows::jobs::job_rows(rows, k, job, c, o, len, 2);
             listed(rows, n)
         }
     }
@@ -64,7 +64,7 @@ pub fn discard_way(image: &[u8], g: Geometry, way: Way, guest: u64, rows: &mut [
         Release::Nothing => Listed::Rows(0),
         Release::Store(freed) => {
             let k = qcow2_rows::clear_row(image, g, rows);
-            let n = qcow2_rows::jobs::freed_rows(rows, k, freed);
+            let n = qcow2_rows::jobs::freed_rows(rows, k, freed, 2, 1, 2);
             listed(rows, n)
         }
     }
@@ -76,7 +76,7 @@ fn leaks(image: &[u8], g: Geometry, refs: &[u8], rows: &mut [u64]) -> Listed
     ensures { λ r. ⌜ Listing (now (image .entry)) (units (clearUnits (now (image .entry)) ++ repairUnits (now (image .entry)) (figuresOf (now (image .entry))) 0 (clusters (now (image .entry))))) (now (rows .entry)) r (now (rows .exit)) ⌝ }
 {
     let k = qcow2_rows::clear_row(image, g, rows);
-    let n = qcow2_rows::counts::count_rows(image, g, refs, rows, k);
+    let n = qcow2_rows::counts::count_rows(image, g, refs, rows, k, 1);
     listed(rows, n)
 }
 

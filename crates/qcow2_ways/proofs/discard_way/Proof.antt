@@ -7,6 +7,8 @@ use Rattle.qcow2_jobs.specs.Jobs.{ReleaseIn, freedUnits}
 use Rattle.qcow2_jobs.specs.declared.releasing.Release.{Release}
 use Rattle.qcow2_spec.specs.Store.{discardWay}
 use Rattle.qcow2_discard.proofs.Some.{freed-some}
+use Rattle.qcow2_rows.proofs.Laws.{puts-same}
+use Rattle.qcow2_rows.proofs.Lists.{rows-freed}
 use Rattle.qcow2_ways.proofs.Listings.{list-refused, list-none, list-units, clearing-refused, clearing-none, clearing-some}
 use Rattle.qcow2_ways.proofs.Most.{freed-most}
 use Rattle.qcow2_ways.proofs.discard_way.Statement.{statement}
@@ -48,7 +50,7 @@ returns-3 c =
     let k = c .before .before .before .before .before .before .before .before .clear-row in
     let f = c .before .before .before .before .freed-rows in
     rw (clearing-some l (discardWay l (a .way)) U (rw (p .1) at (sym (c .before .before .before .before .before .before .before .before .before .before .before .before .before .find-release .ensures .same))) (freed-some (p .0 .0)))
-    (list-units l U (now (a .rows)) _ _ _ _ _ (k .ensures .1) (f .ensures .1) (f .kept .0 ∙ k .kept .1 .1 .0) (c .listed .ensures))
+    (list-units l U (now (a .rows)) _ _ _ _ _ (k .ensures .1) (puts-same (rows-freed (p .0 .0)) (f .ensures .1)) (f .kept .0 ∙ k .kept .1 .1 .0) (c .listed .ensures))
 
 pub discard-way-spec : {M : Type 1} → statement M
 discard-way-spec =

@@ -8,6 +8,8 @@ use Rattle.qcow2_jobs.specs.Jobs.{jobUnits, DecisionIn}
 use Rattle.qcow2_jobs.specs.declared.finding.Decision.{Decision}
 use Rattle.qcow2_spec.specs.Store.{backingCluster, writeWay}
 use Rattle.qcow2_write.proofs.Some.{job-some}
+use Rattle.qcow2_rows.proofs.Laws.{puts-same}
+use Rattle.qcow2_rows.proofs.Lists.{rows-job}
 use Rattle.qcow2_ways.proofs.Listings.{length-backing, list-refused, list-units, clearing-refused, clearing-some}
 use Rattle.qcow2_ways.proofs.Most.{job-most}
 use Rattle.qcow2_ways.proofs.write_way.Statement.{statement}
@@ -29,7 +31,7 @@ job-rows-requires c κs =
     let n = length (now (a .image)) in
     let p = c .before .before .before .before .before .before .before .found2 .given in
     let i = subst (λ (x : Decision). DecisionIn n (2 ^ a .g .bits) x) (p .1) (c .before .before .before .before .before .before .before .before .before .find-job .ensures .inside) in
-    rw (c .before .bytes-of .ensures .0) ((omega (arith, c .before .before .before .before .clear-row .ensures .0), job-most n (s .pre .0 .0 .0 .short) (2 ^ a .g .bits) (p .0 .0) i), (omega (arith, s .pre .1 .0), omega (arith, s .pre .1 .1)))
+    rw (c .before .bytes-of .ensures .0) ((omega (arith, c .before .before .before .before .clear-row .ensures .0), job-most n (s .pre .0 .0 .0 .short) (2 ^ a .g .bits) (p .0 .0) i), omega (arith, s .pre .1 .0))
 
 returns : tie.Need-returns
 returns c b d e =
@@ -50,7 +52,7 @@ returns-2 c b d e =
     let k = c .before .before .before .before .before .before .before .before .before .clear-row in
     let j = c .before .before .before .before .job-rows in
     rw (clearing-some l (writeWay b l (a .way) (a .guest) (a .o) d) U (rw (p .1) at (sym (c .before .before .before .before .before .before .before .before .before .before .before .before .before .before .find-job .ensures .same b (a .o) d))) (job-some (p .0 .0) _ (a .o) u d (omega (arith, e, s .pre .1 .1))))
-    (list-units l U (now (a .rows)) _ _ _ _ _ (k .ensures .1) (rw f at (j .ensures .1 u d (length-backing b l (a .guest) _ (f ∙ s .pre .0 .0 .0 .is-cluster)) e)) (j .kept .0 ∙ k .kept .1 .1 .0) (c .listed .ensures))
+    (list-units l U (now (a .rows)) _ _ _ _ _ (k .ensures .1) (puts-same (rows-job (p .0 .0) _ (a .o) (a .len) u d (length-backing b l (a .guest) _ (s .pre .0 .0 .0 .is-cluster)) e (s .pre .1 .0) (s .pre .1 .1)) (rw f at (j .ensures .1))) (j .kept .0 ∙ k .kept .1 .1 .0) (c .listed .ensures))
 
 pub write-way-spec : {M : Type 1} → statement M
 write-way-spec =

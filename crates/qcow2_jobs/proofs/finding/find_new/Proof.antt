@@ -2,7 +2,7 @@ use borrow.Author.Needs.{needs}
 use native.Mathlib.Omega.{arith}
 use denote.Ref.{now}
 use Rattle.qcow2_counts.proofs.Sizes.{inside-at}
-use Rattle.qcow2_jobs.proofs.Writes.{full, newly}
+use Rattle.qcow2_jobs.proofs.Writes.{free-zero, full, newly}
 use Rattle.qcow2_jobs.proofs.finding.find_new.Statement.{statement}
 use Rattle.qcow2_jobs.proofs.finding.find_new.Tie as tie
 
@@ -33,7 +33,7 @@ returns-2 c guest =
     let n = c .before .before .count-at in
     let m = c .before .has-mark in
     let b = c .bytes-of in
-    rw (← f .ensures) (newly (a .g) (now (a .image)) (s .pre .0) guest (a .entry-at) (f .result) (a .e) (m .result) (n .result) (b .result) (m .ensures) (omega arith) (s .pre .1) (n .ensures .0) (n .ensures .1) (b .ensures .0))
+    rw (← f .ensures) (newly (a .g) (now (a .image)) (s .pre .0) guest (a .entry-at) (f .result) (a .e) (m .result) (n .result) (b .result) (m .ensures) (omega arith) (free-zero (now (a .image)) 0 _ (f .ensures) (omega (arith, s .pre .0 .is-clusters))) (s .pre .1) (n .ensures .0) (n .ensures .1) (b .ensures .0))
 
 pub find-new-spec : {M : Type 1} → statement M
 find-new-spec =

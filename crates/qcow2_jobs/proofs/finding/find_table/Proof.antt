@@ -4,7 +4,7 @@ use Prim.Native.Nat.{_+_}
 use mathlib.Core.Path.{_≡_}
 use Rattle.qcow2_spec.specs.Counts.{freeFrom}
 use Rattle.qcow2_counts.proofs.Sizes.{sizes}
-use Rattle.qcow2_jobs.proofs.Writes.{free-most, free-least, full-table, tabled}
+use Rattle.qcow2_jobs.proofs.Writes.{free-most, free-least, free-zero, full-table, tabled}
 use Rattle.qcow2_jobs.proofs.finding.find_table.Statement.{statement}
 use Rattle.qcow2_jobs.proofs.finding.find_table.Tie as tie
 
@@ -42,7 +42,9 @@ returns-2 c =
     let i = c .before .before .before .before .free-from in
     let j = c .before .before .before .free-from2 in
     let p = c .find-places in
-    rw (← i .ensures, ← j .ensures) (tabled (a .g) (now (a .image)) (s .pre .0 .0) (a .guest) (i .result) (j .result) (p .result) (omega arith) (p .ensures .0) (p .ensures .1))
+    let l = now (a .image) in
+    let e : j .result ≡ freeFrom l (i .result + 1) = j .ensures in
+    rw (← i .ensures, ← j .ensures) (tabled (a .g) (now (a .image)) (s .pre .0 .0) (a .guest) (i .result) (j .result) (p .result) (omega arith) (free-zero l 0 _ (i .ensures) (omega (arith, s .pre .0 .0 .is-clusters, free-least l (i .result + 1)))) (free-zero l (i .result + 1) _ (j .ensures) (omega (arith, s .pre .0 .0 .is-clusters))) (p .ensures .0) (p .ensures .1))
 
 pub find-table-spec : {M : Type 1} → statement M
 find-table-spec =

@@ -15,13 +15,13 @@ use Rattle.qcow2_rows.proofs.counts.count_rows.Statement.{statement}
 use Rattle.qcow2_rows.proofs.counts.count_rows.Tie as tie
 
 abbrev Inv-loop : tie.InvT-loop
-Inv-loop image g refs rows₀ k r₀ i₀ rows r i = Going image (figuresIn refs) (g .clusters) rows₀ k rows r i
+Inv-loop image g refs rows₀ k epoch r₀ i₀ rows r i = Going epoch image (figuresIn refs) (g .clusters) rows₀ k rows r i
 
 abbrev μ-loop : tie.MeasureT-loop
-μ-loop image g refs rows₀ k r₀ i₀ rows r i = g .clusters - i
+μ-loop image g refs rows₀ k epoch r₀ i₀ rows r i = g .clusters - i
 
 loop-holds : tie.Need-loop-holds Inv-loop μ-loop
-loop-holds c = let s = c .before .before .before .args in going-first (now (s .image)) (figuresIn (now (s .refs))) (s .g .clusters) (now (s .rows)) (s .k)
+loop-holds c = let s = c .before .before .before .args in going-first (s .epoch) (now (s .image)) (figuresIn (now (s .refs))) (s .g .clusters) (now (s .rows)) (s .k)
 
 count-at-requires : tie.Need-count-at-requires Inv-loop μ-loop
 count-at-requires c κs = (c .before .before .before .before .before .before .pre .0, c .if1 .taken)
@@ -49,15 +49,15 @@ loop-again c =
     let figure = c .before .load16 .ensures ∙ sym (getD-twos (now (a .refs)) (many (now (a .refs))) i (omega (arith, c .before .before .before .before .if1 .taken, s .pre .1 .1))) in
     let inv = c .before .before .before .before .before .before .loop .inv in
     ⊎-elim
-    (λ w. rw (w .5, w .6) (going-wrong (now (a .image)) fs (a .g .clusters) (now (a .rows)) (a .k) _ _ i (c .before .before .before .before .if1 .taken) inv _ _ (λ z. w .0 .taken (stored ∙ z ∙ sym figure)) (w .2 .kept .0) (w .2 .ensures .0) (rw (o .is-width, at) at (w .2 .ensures .1))))
-    (λ w. rw (w .1, w .2) (going-right (now (a .image)) fs (a .g .clusters) (now (a .rows)) (a .k) _ _ i (c .before .before .before .before .if1 .taken) inv (sym stored ∙ w .0 .left ∙ figure)))
+    (λ w. rw (w .5, w .6) (going-wrong (a .epoch) (now (a .image)) fs (a .g .clusters) (now (a .rows)) (a .k) _ _ i (c .before .before .before .before .if1 .taken) inv _ _ (λ z. w .0 .taken (stored ∙ z ∙ sym figure)) (w .2 .kept .0) (w .2 .ensures .0) (rw (o .is-width, at) at (w .2 .ensures .1))))
+    (λ w. rw (w .1, w .2) (going-right (a .epoch) (now (a .image)) fs (a .g .clusters) (now (a .rows)) (a .k) _ _ i (c .before .before .before .before .if1 .taken) inv (sym stored ∙ w .0 .left ∙ figure)))
     (c .if2 .came)
 
 same-length : tie.Need-same-length Inv-loop μ-loop
 same-length c = c .before .before .loop .inv .same
 
 returns : tie.Need-returns Inv-loop μ-loop
-returns c = let s = c .before .before .before .before .before .before .args in going-last (now (s .image)) (figuresIn (now (s .refs))) (s .g .clusters) (now (s .rows)) (s .k) _ _ _ (c .if1 .left) (c .before .before .loop .inv)
+returns c = let s = c .before .before .before .before .before .before .args in going-last (s .epoch) (now (s .image)) (figuresIn (now (s .refs))) (s .g .clusters) (now (s .rows)) (s .k) _ _ _ (c .if1 .left) (c .before .before .loop .inv)
 
 pub count-rows-spec : {M : Type 1} → statement M
 count-rows-spec =

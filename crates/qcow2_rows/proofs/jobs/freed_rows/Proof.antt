@@ -5,7 +5,6 @@ use borrow.Author.Needs.{needs}
 use Rattle.qcow2_spec.specs.Header.{mostLength}
 use Rattle.qcow2_jobs.specs.Jobs.{FreedIn}
 use Rattle.qcow2_rows.proofs.Laws.{puts-then}
-use Rattle.qcow2_rows.proofs.Lists.{rows-entry, rows-both}
 use Rattle.qcow2_rows.proofs.jobs.freed_rows.Statement.{statement}
 use Rattle.qcow2_rows.proofs.jobs.freed_rows.Tie as tie
 
@@ -19,14 +18,14 @@ returns : tie.Need-returns
 returns c =
     let s = c .before .before .before .before .before .before .before .before in
     let a = c .before .before .put-entry .ensures in
-    rw (c .before .before .before .before .before .freed .given .1, rows-entry) (omega (arith, s .pre .0, a .0), a .1)
+    rw (c .before .before .before .before .before .freed .given .1) (omega (arith, s .pre .0, a .0), a .1)
 
 returns-2 : tie.Need-returns-2
 returns-2 c =
     let s = c .before .before .before .before .before .before .before .before .before .before .before .before in
     let a = c .before .before .before .before .before .before .put-entry2 .ensures in
     let b = c .before .before .put-count .ensures in
-    rw (c .before .before .before .before .before .before .before .before .before .freed2 .given .1, rows-both) (omega (arith, s .pre .0, a .0, b .0), puts-then (a .1) (b .1))
+    rw (c .before .before .before .before .before .before .before .before .before .freed2 .given .1) (omega (arith, s .pre .0, a .0, b .0), puts-then (a .1) (b .1))
 
 pub freed-rows-spec : {M : Type 1} → statement M
 freed-rows-spec =
