@@ -2,10 +2,12 @@
 //! implementations can be fed the same requests.
 #![forbid(unsafe_code)]
 
+mod batches;
 mod calls;
 mod portions;
 mod steps;
 
+pub use batches::{Batches, Planned, PHASES};
 pub use calls::{Calls, Over};
 pub use portions::{CheckBytes, Portion, CHECK_STATE};
 pub use steps::{Geometry, Step, STEP};

@@ -1,9 +1,11 @@
 //! Times the proved core and the plain implementation side by side and prints
 //! tables of ratios. An argument chooses one family of cases: check, short,
-//! shared, snapshots, portions, free, read, backed, map, store, extend, long or widths.
+//! shared, snapshots, portions, free, read, backed, map, store, batch, extend, long or
+//! widths.
 #![forbid(unsafe_code)]
 
 mod backed;
+mod batch;
 mod bench;
 mod check;
 mod damaged;
@@ -22,7 +24,7 @@ use bench::Bench;
 /// A family's name and its cases.
 type Family = (&'static str, fn(&Bench));
 
-const FAMILIES: [Family; 13] = [
+const FAMILIES: [Family; 14] = [
     ("check", check::run),
     ("short", damaged::short),
     ("shared", damaged::shared),
@@ -33,6 +35,7 @@ const FAMILIES: [Family; 13] = [
     ("backed", backed::run),
     ("map", map::run),
     ("store", store::run),
+    ("batch", batch::run),
     ("extend", extend::run),
     ("long", long::run),
     ("widths", widths::run),

@@ -14,6 +14,7 @@ pub const SNAPSHOT_BAD_L2: u32 = 1010;
 pub const MARK_L1: u32 = 1011;
 pub const MARK_L2: u32 = 1012;
 pub const MORE: u32 = 1013;
+pub const BATCH_ENDS: u32 = 1014;
 
 extern "C" {
     pub fn qcow2_backed_geometry(
@@ -133,6 +134,41 @@ extern "C" {
         scratch_len: usize,
         rows: *mut u64,
         m: usize,
+        count: *mut u64,
+    ) -> u32;
+    pub fn qcow2_backed_batch_write(
+        image: *const u8,
+        n: usize,
+        backing: *const u8,
+        b: usize,
+        offset: u64,
+        len: u64,
+        rows: *mut u64,
+        m: usize,
+        held: u64,
+        count: *mut u64,
+    ) -> u32;
+    pub fn qcow2_backed_batch_discard(
+        image: *const u8,
+        n: usize,
+        backing: *const u8,
+        b: usize,
+        cluster: u64,
+        rows: *mut u64,
+        m: usize,
+        held: u64,
+        count: *mut u64,
+    ) -> u32;
+    pub fn qcow2_backed_batch_repair(
+        image: *const u8,
+        n: usize,
+        backing: *const u8,
+        b: usize,
+        scratch: *mut u8,
+        scratch_len: usize,
+        rows: *mut u64,
+        m: usize,
+        held: u64,
         count: *mut u64,
     ) -> u32;
     pub fn qcow2_backed_check(

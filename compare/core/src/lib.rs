@@ -9,17 +9,22 @@
 //! and its length for the time of one call, shared slices are only read, and
 //! the out values are locals.
 
+mod batches;
 mod ffi;
 mod portions;
 mod steps;
 #[cfg(test)]
 mod stored;
 #[cfg(test)]
+mod stored_batches;
+#[cfg(test)]
 mod stored_portions;
 
 pub use answers::{
-    CheckBytes, Found, Geometry, Outcome, Portion, Run, Step, Verdict, CHECK_STATE, STEP,
+    CheckBytes, Found, Geometry, Outcome, Planned, Portion, Run, Step, Verdict, CHECK_STATE,
+    PHASES, STEP,
 };
+pub use batches::{batch_discard, batch_repair, batch_write};
 pub use portions::check_portion;
 pub use steps::{discard_steps, repair_steps, write_steps};
 
@@ -27,6 +32,7 @@ pub use steps::{discard_steps, repair_steps, write_steps};
 pub struct Core;
 
 answers::calls!(functions Core "core");
+answers::batches!(Core);
 
 /// Cluster size, disk size and number of clusters, as the header has them.
 pub fn geometry(image: &[u8], backing: &[u8]) -> Result<Geometry, u32> {

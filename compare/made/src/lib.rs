@@ -5,6 +5,8 @@
 pub mod backing;
 pub mod backing_drive;
 pub mod backing_edges;
+pub mod batch_rows;
+pub mod batches;
 pub mod bench_suite;
 pub mod breaks;
 pub mod clearing;

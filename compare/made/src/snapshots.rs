@@ -4,6 +4,7 @@
 use std::ops::Range;
 
 use crate::image::{Made, USED};
+use crate::plan::MAX_L1;
 use crate::rng::Rng;
 
 pub const MAX_SNAPSHOTS: usize = 64;
@@ -129,7 +130,7 @@ impl Trees<'_> {
         let active = self.made.l1_size;
         let few = rng.index(self.made.per_table());
         let l1_size = rng.pick(&[active, active, active + 1, few, active / 2, 0]);
-        let l1_size = l1_size.min(4 * self.made.per_table());
+        let l1_size = l1_size.min(4 * self.made.per_table()).min(MAX_L1);
         let l1_clusters = (8 * l1_size).div_ceil(self.made.cluster());
         let l1_at = self.made.take_run(l1_clusters)?;
         for cluster in (l1_at >> self.made.cluster_bits..).take(l1_clusters) {

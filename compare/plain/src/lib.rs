@@ -2,6 +2,7 @@
 //! as the proved one, written independently of it.
 #![forbid(unsafe_code)]
 
+mod batches;
 mod cell;
 mod check;
 mod compare;
@@ -25,7 +26,10 @@ mod wide;
 mod width;
 mod words;
 
-pub use answers::{CheckBytes, Found, Geometry, Outcome, Over, Portion, Run, Step, Verdict};
+pub use answers::{
+    CheckBytes, Found, Geometry, Outcome, Over, Planned, Portion, Run, Step, Verdict,
+};
+pub use batches::{batch_discard, batch_repair, batch_write};
 pub use check::{check, difference, repair};
 pub use extend::extend;
 pub use portions::{check_portion, CheckState};
@@ -37,6 +41,7 @@ pub use storing::{discard, write};
 pub struct Plain;
 
 answers::calls!(functions Plain "plain");
+answers::batches!(Plain);
 
 /// The same with no bytes of a backing file lent.
 pub const ALONE: Over = Over::none(&Plain);

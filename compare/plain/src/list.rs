@@ -26,7 +26,7 @@ pub(crate) struct List<'a> {
     stores: [Store<'a>; MOST],
     len: usize,
     /// Is the first store the clearing unit?
-    clears: bool,
+    pub clears: bool,
 }
 
 impl<'a> List<'a> {
@@ -56,7 +56,7 @@ impl<'a> List<'a> {
         List { len, ..list }
     }
 
-    fn stores(&self) -> &[Store<'a>] {
+    pub fn stores(&self) -> &[Store<'a>] {
         &self.stores[..self.len]
     }
 

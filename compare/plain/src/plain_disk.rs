@@ -2,6 +2,8 @@
 //! and the claim that holds after every call; and that no call changes a byte of
 //! a snapshot. A checker for tests.
 
+mod batch;
+
 use std::collections::{BTreeMap, BTreeSet};
 
 use answers::{Outcome, Over, Verdict};

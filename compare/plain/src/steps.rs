@@ -49,17 +49,27 @@ pub fn repair_steps(
     scratch: &mut [u8],
     rows: &mut [u64],
 ) -> Result<usize, u32> {
+    let (clearing, counts) = repair_list(image, backing, scratch)?;
+    Ok(put(clearing.steps().chain(counts.iter().map(|count| count.step(1))), rows))
+}
+
+/// The clearing unit, where there is one, and each count that is set.
+pub(crate) fn repair_list(
+    image: &[u8],
+    backing: &[u8],
+    scratch: &mut [u8],
+) -> Result<(List<'static>, Vec<Store<'static>>), u32> {
     let header = match examine(image, backing, scratch)? {
-        (_, Verdict::Sound) => return Ok(0),
+        (_, Verdict::Sound) => return Ok((List::of([]), Vec::new())),
         (header, Verdict::Leaks(_)) => header,
         _ => return Err(17),
     };
     let counts = (0..header.clusters).filter_map(|cluster| {
         let value = u16::from_be_bytes([scratch[2 * cluster], scratch[2 * cluster + 1]]).into();
         let cell = header.cell(image, cluster);
-        (cell.load(image) != value).then(|| Store::Count { cell, value }.step(1))
+        (cell.load(image) != value).then_some(Store::Count { cell, value })
     });
-    Ok(put(List::clearing(&header).steps().chain(counts), rows))
+    Ok((List::clearing(&header), counts.collect()))
 }
 
 /// How many there was room for.
