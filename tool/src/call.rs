@@ -1,6 +1,8 @@
 //! The calls that change guest clusters, one guest cluster each.
 
-use qcow2_core::{Outcome, Step, STEP};
+use qcow2_core::{Outcome, Planned, Step, STEP};
+
+use crate::planner::{batch_discard, batch_write};
 
 #[derive(Clone, Copy)]
 pub enum Call<'a> {
@@ -32,6 +34,24 @@ impl Call<'_> {
             }
         };
         Ok(Step::of_rows(&rows[..STEP * count]).collect())
+    }
+
+    /// Do steps that are listed of this call change bytes, whatever these hold? All do
+    /// that have a count or an entry; data in place may be there already.
+    pub fn is_sure(&self, steps: &[Step]) -> bool {
+        let clearing = |step: &&Step| step.epoch == 0;
+        let others = steps.len() - steps.iter().filter(clearing).count();
+        !(others == 1 && matches!(self, Call::Write { .. }))
+    }
+
+    /// The same for a batch: its steps by phase, after the first `held` rows.
+    pub fn plan(&self, image: &[u8], backing: &[u8], rows: &mut [u64], held: usize) -> Planned {
+        match *self {
+            Call::Write { offset, data } => {
+                batch_write(image, backing, offset, data.len() as u64, rows, held)
+            }
+            Call::Discard { cluster } => batch_discard(image, backing, cluster, rows, held),
+        }
     }
 }
 

@@ -179,9 +179,10 @@ qstore write IMAGE OFFSET [--backing FILE] [--json] [--allowance U]
 
 Writes standard input to the guest bytes from OFFSET on, guest cluster by guest
 cluster. The whole request is tried in memory first: if any part is refused,
-the file is not changed. Of each guest cluster what nothing leads to yet is
-stored and flushed before the entry that leads to it, so that a power cut leaves
-an image that is sound or leaks.
+the file is not changed. Many guest clusters are stored at once: what nothing
+leads to yet is flushed before the entries that lead to it. So a power cut leaves
+an image that is sound or leaks, and each guest cluster old or new by itself; data
+that had a place may be old and new byte by byte.
 
 What a snapshot holds is never changed: a write to it is refused (22). Around the
 bytes that are written a new cluster has those of the backing file.

@@ -20,7 +20,7 @@ use std::iter::once;
 
 use qcow2_core::{Outcome, Step, Verdict};
 
-use crate::bring::{bring, is_told, Fault};
+use crate::bring::{bring, is_told, Change, Fault};
 use crate::disk::Disk;
 use crate::extents;
 use crate::fields::AUTOCLEAR;
@@ -119,7 +119,8 @@ impl<D: Disk> Longer<D> {
         let steps = within(self.steps.clone(), allowance);
         let outcome = qcow2_core::extend(&mut self.work, self.old, allowance);
         is_told(outcome, &steps)?;
-        bring(&mut self.disk, &self.work, &steps, done)?;
+        // Of a run that a power cut broke off the file may have them.
+        bring(&mut self.disk, &self.work, &Change::all(&steps, false), done)?;
         Ok(outcome)
     }
 

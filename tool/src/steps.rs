@@ -21,12 +21,14 @@ pub fn within(mut steps: Vec<Step>, allowance: u64) -> Vec<Step> {
     steps
 }
 
-/// The bytes of steps, one range where a step goes on from the one before it.
+/// The bytes of steps as ranges that rise, with a gap between two of them.
 pub fn ranges(steps: &[Step]) -> Vec<Range<usize>> {
+    let mut sorted: Vec<Range<usize>> = steps.iter().map(Step::range).collect();
+    sorted.sort_by_key(|range| range.start);
     let mut ranges: Vec<Range<usize>> = Vec::new();
-    for Range { start, end } in steps.iter().map(Step::range) {
+    for Range { start, end } in sorted {
         match ranges.last_mut() {
-            Some(last) if last.start <= start && start <= last.end => last.end = last.end.max(end),
+            Some(last) if start <= last.end => last.end = last.end.max(end),
             _ => ranges.push(start..end),
         }
     }
@@ -60,7 +62,10 @@ mod tests {
         let counts = [step(10, 1, 1, 1), step(10, 1, 1, 1), step(11, 1, 1, 1), step(13, 1, 1, 1)];
         assert_eq!(ranges(&counts), [10..12, 13..14]);
         let table = [step(512, 512, 512, 1), step(40, 2, 1, 1), step(520, 8, 1, 1)];
-        assert_eq!(ranges(&table), [512..1024, 40..42, 520..528]);
+        assert_eq!(ranges(&table), [40..42, 512..1024]);
+        // Of several calls: what stands side by side is one range.
+        let calls = [table, [step(1024, 512, 512, 1), step(42, 2, 1, 1), step(504, 7, 1, 1)]];
+        assert_eq!(ranges(&calls.concat()), [40..44, 504..511, 512..1536]);
         assert_eq!(ranges(&[]), []);
     }
 }

@@ -15,12 +15,11 @@ impl Touched {
         Touched { bits: geometry.cluster_bits, marked: vec![false; geometry.clusters] }
     }
 
-    /// Adds the clusters in which the steps' bytes lie.
-    pub fn add(&mut self, steps: &[Step]) {
-        for range in steps.iter().map(Step::range) {
-            let clusters = range.start >> self.bits..range.end.div_ceil(1 << self.bits);
-            self.marked[clusters].fill(true);
-        }
+    /// Adds the clusters in which the step's bytes lie.
+    pub fn add(&mut self, step: &Step) {
+        let range = step.range();
+        let clusters = range.start >> self.bits..range.end.div_ceil(1 << self.bits);
+        self.marked[clusters].fill(true);
     }
 
     /// Clusters side by side as one range each, rising.
@@ -43,12 +42,9 @@ mod tests {
         let mut touched = Touched { bits: 9, marked: vec![false; 16] };
         assert_eq!(touched.runs().count(), 0);
         let bytes = [88..96, 1536..1544, 2048..2560, 7680..8192, 2050..2052];
-        touched.add(&bytes.map(|Range { start, end }| Step {
-            at: start,
-            len: end - start,
-            units: 1,
-            epoch: 1,
-        }));
+        for Range { start, end } in bytes {
+            touched.add(&Step { at: start, len: end - start, units: 1, epoch: 1 });
+        }
         let runs: Vec<_> = touched.runs().collect();
         assert_eq!(runs, [0..512, 1536..2560, 7680..8192]);
     }

@@ -6,10 +6,13 @@ mod common;
 use common::drive::{accepted, all_torn, open, usable, Drive, Random};
 use common::growing::{extend, Growing};
 use common::kinds::{discard_of, image, write_to, TABLE};
+use common::made::made;
 use common::promise::Promise;
 use qcow2_core::Outcome;
 use qstore::call::Call;
 use qstore::commands::{discard, repair, write};
+use qstore::image_file::ImageFile;
+use qstore::report::{Failure, Report};
 
 /// Each kind of call with its flushes.
 fn calls() -> [(Call<'static>, usize); 9] {
@@ -70,7 +73,7 @@ fn flushes_of_a_repair() {
     }
 }
 
-/// The commands, each with the flush before it judges: three clusters written,
+/// The commands, each with the flush before it judges: three clusters written at once,
 /// the first with a table and the autoclear bits; discarded; one leak repaired.
 #[test]
 fn flushes_of_commands() {
@@ -79,13 +82,51 @@ fn flushes_of_commands() {
     let mut drive = Drive::with(&made.bytes);
     let input = vec![7; 3 * 512];
     assert!(write::run(open(&mut drive).ok().unwrap(), 0, &mut &input[..], u64::MAX).is_ok());
-    assert_eq!(drive.flushes, 1 + 1 + 3 * 2);
+    assert_eq!(drive.flushes, 1 + 1 + 2);
     assert!(discard::run(open(&mut drive).ok().unwrap(), 0, 32_768, u64::MAX).is_ok());
-    assert_eq!(drive.flushes, 8 + 1 + 3 * 2);
+    assert_eq!(drive.flushes, 4 + 1 + 2);
     assert!(repair::run(open(&mut drive).ok().unwrap(), u64::MAX, false).is_ok());
-    assert_eq!(drive.flushes, 15 + 1 + 1);
+    assert_eq!(drive.flushes, 7 + 1 + 1);
     assert!(repair::run(open(&mut drive).ok().unwrap(), u64::MAX, false).is_ok());
-    assert_eq!(drive.flushes, 17 + 1);
+    assert_eq!(drive.flushes, 9 + 1);
+}
+
+/// Clusters written to new places, written in place and discarded: a batch holds 1,024
+/// rows, of which a new cluster takes three, one in place one, and a discard two.
+#[test]
+fn flushes_of_many_clusters() {
+    for (clusters, batches) in [(1, [1, 1, 1]), (64, [1, 1, 1]), (1000, [3, 1, 2])] {
+        // One L2 table has all entries.
+        let mut drive = Drive::with(&made(3, 13, 1100, 8 << 20).image);
+        let (input, length) = (|byte| vec![byte; clusters << 13], (clusters as u64) << 13);
+        assert_eq!(flushed(&mut drive, |image| write_all(image, &input(1))), 1 + 2 * batches[0]);
+        assert_eq!(flushed(&mut drive, |image| write_all(image, &input(2))), 1 + batches[1]);
+        let discard = |image: ImageFile<&mut Drive>| discard::run(image, 0, length, u64::MAX);
+        assert_eq!(flushed(&mut drive, discard), 1 + 2 * batches[2]);
+        assert_eq!(flushed(&mut drive, discard), 1);
+    }
+}
+
+/// A batch that stores 16 MiB is long enough.
+#[test]
+fn flushes_of_many_bytes() {
+    let mut drive = Drive::with(&made(3, 16, 310, 32 << 20).image);
+    let input = vec![1; 300 << 16];
+    assert_eq!(flushed(&mut drive, |image| write_all(image, &input)), 1 + 2 * 2);
+}
+
+fn write_all(image: ImageFile<&mut Drive>, bytes: &[u8]) -> Result<Report, Failure> {
+    write::run(image, 0, &mut &bytes[..], u64::MAX)
+}
+
+/// The flushes of a command that is finished.
+fn flushed(
+    drive: &mut Drive,
+    command: impl FnOnce(ImageFile<&mut Drive>) -> Result<Report, Failure>,
+) -> usize {
+    let before = drive.flushes;
+    assert!(command(open(&mut *drive).ok().unwrap()).is_ok());
+    drive.flushes - before
 }
 
 /// A longer file: the length, the autoclear bits, and two for each block.

@@ -104,16 +104,19 @@ fn counts_of_one_byte() {
         let call = Call::Write { offset: 33_285, data: b"h" };
         assert_eq!(ordered.call(&call, u64::MAX).unwrap(), Outcome::Finished(1028));
         let epochs = ordered.into_disk().epochs;
+        // The bytes that are new, whichever are stored together.
         let stores = |epoch: usize| -> Vec<(usize, u8)> {
-            epochs[epoch].iter().map(|(at, bytes)| (*at, bytes[0])).collect()
+            let bytes = |(at, bytes): &(usize, Vec<u8>)| (*at..).zip(bytes.clone()).collect();
+            let bytes = epochs[epoch].iter().flat_map::<Vec<_>, _>(bytes);
+            bytes.filter(|(at, byte)| image[*at] != *byte).collect()
         };
         // The L2 entry comes with its table.
         let mut wanted = counts.to_vec();
-        wanted.extend([(2056, 0x80), (2565, b'h')]);
+        wanted.extend([(2056, 0x80), (2062, 0x0A), (2565, b'h')]);
         wanted.sort_unstable();
         let mut first = stores(1);
         first.sort_unstable();
-        assert_eq!((epochs.len(), first, stores(2)), (3, wanted, vec![(1544, 0x80)]));
+        assert_eq!((epochs.len(), first, stores(2)), (3, wanted, vec![(1544, 0x80), (1550, 8)]));
         let mut state = image;
         put(&mut state, &sectors(&epochs[1]));
         assert_eq!(verdict(&state), Verdict::Leaks(2));
@@ -134,8 +137,8 @@ fn epochs_are_flushed_in_order() {
         assert!(epochs.remove(0).is_empty());
         let places = |stores: &Vec<(usize, Vec<u8>)>| stores.iter().map(|it| it.0).collect();
         let stores: Vec<Vec<usize>> = epochs.iter().map(places).collect();
-        // Autoclear bits; table's count, its one entry, count, data; L1 entry.
-        let wanted = [vec![95], vec![1024 + 9, 2056, 1024 + 11, 2565], vec![1544]];
+        // Autoclear bits; both counts, the table with the data; L1 entry.
+        let wanted = [vec![88], vec![1024 + 8, 2048], vec![1544]];
         assert_eq!(stores, wanted[usize::from(bits == 0)..]);
     }
 }
@@ -148,7 +151,8 @@ fn a_drive_that_fails_leaves_the_first_units() {
         image[95] = 1;
         let call = Call::Write { offset: 33_285, data: b"hello" };
         let promise = Promise::of(&image, &call);
-        let kinds = if order < 3 { "SF SSSF SF" } else { "SF SSSSF SF" }.replace(' ', "");
+        // The bits; the counts, table and data; the L1 entry.
+        let kinds = "SF SSF SF".replace(' ', "");
         for (left, kind) in kinds.chars().enumerate() {
             let drive = Drive { left: Some(left), ..Drive::with(&image) };
             let mut ordered = accepted(drive, image.clone());

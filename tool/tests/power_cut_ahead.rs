@@ -14,7 +14,7 @@ use common::promise::{guest, kept, verdict};
 use common::{bench_image, images};
 use qcow2_core::{write, Outcome, Verdict};
 use qstore::call::Call;
-use qstore::commands::{discard, repair};
+use qstore::commands::{self, discard, repair};
 use qstore::disk::Disk;
 use qstore::image_file::{Access, ImageFile, View};
 use qstore::layout::Layout;
@@ -157,7 +157,10 @@ fn failed_stores_are_told_from_failed_flushes() {
         let failure = text(discard::run(open(drive).ok().unwrap(), 33_280, 512, 2).err().unwrap());
         assert!(failure.starts_with("broken off after 0 units or more: "), "{failure}");
         if left % 2 == 1 {
-            assert!(failure.contains("no more. The file holds the first units"), "{failure}");
+            assert!(
+                failure.contains("no more. The file holds what a power cut would"),
+                "{failure}"
+            );
         } else {
             says_no_more_than_is_known(&failure);
         }
@@ -206,8 +209,8 @@ impl Disk for Failing<'_> {
     }
 }
 
-/// Reading fails at the start, after the trial, before the stores of one of two
-/// discards, and at the last comparison.
+/// Reading fails at the start, after the trial that an allowance asks for, before the
+/// stores of two writes in place, which are one batch, and at the last comparison.
 #[test]
 fn failed_loads() {
     let mut image = bench_image();
@@ -218,12 +221,12 @@ fn failed_loads() {
     for loads in 0.. {
         let mut drive = Drive::with(&image);
         let disk = Failing { drive: &mut drive, loads: AtomicUsize::new(loads) };
-        let result = open(disk).and_then(|opened| discard::run(opened, 32_768, 1024, u64::MAX));
+        let result = open(disk)
+            .and_then(|opened| commands::write::run(opened, 32_768, &mut &[7; 1024][..], 1024));
         let Err(failure) = result else { break };
         let failure = text(failure);
         let (kind, _) = failure.split_once("no more").expect("the drive's words");
         assert!(verdict(&drive.cache).is_usable() && drive.open.is_empty());
-        // The last of a discard's two loads is made after its entry is stored.
         let kept = kind.is_empty() || kind.starts_with("not changed");
         assert!(!kept || drive.cache == image, "{kind}");
         kinds.push(kind.to_string());
@@ -233,8 +236,7 @@ fn failed_loads() {
         "",
         "not changed: ",
         "broken off after 0 units or more: ",
-        "broken off after 2 units or more: ",
-        "all 4 units are stored and flushed, but the file could not be read again to compare it: ",
+        "all 1024 units are stored and flushed, but the file could not be read again to compare it: ",
     ];
     assert_eq!(kinds, wanted);
 }

@@ -60,11 +60,16 @@ pub fn noting(mut report: Report, bits: u64, after: &[u8]) -> Report {
 }
 
 /// Tries the calls in memory: the units of all, or the first refusal with the
-/// index of its call.
+/// index of its call. Where all will be made and none is stopped, that is clear before.
 pub fn trial<'a, D: Disk>(
     ordered: &mut Ordered<D>,
+    allowance: u64,
     calls: impl Iterator<Item = Call<'a>> + Clone,
 ) -> Result<Result<u64, (usize, u32)>, Failure> {
+    let unbounded = allowance == u64::MAX;
+    if let Some(units) = unbounded.then(|| ordered.foreseen(calls.clone())).flatten() {
+        return Ok(Ok(units));
+    }
     let mut progress = Progress::new("trying in memory", calls.clone().count() as u64);
     ordered.trial(calls, |done| progress.at(done)).map_err(|fault| match fault {
         Fault::Load(error) => Failure::Other(format!("not changed: {error}")),
@@ -72,7 +77,7 @@ pub fn trial<'a, D: Disk>(
     })
 }
 
-/// Runs the calls in turn until the allowance is spent: the units, and whether
+/// Runs the calls in batches until the allowance is spent: the units, and whether
 /// all are finished.
 pub fn run<'a, D: Disk>(
     ordered: &mut Ordered<D>,
@@ -82,21 +87,19 @@ pub fn run<'a, D: Disk>(
     calls: impl Iterator<Item = Call<'a>>,
 ) -> Result<(u64, bool), Failure> {
     let mut progress = Progress::new(label, total);
-    let (mut spent, mut finished) = (0, true);
-    for call in calls {
-        match ordered.call(&call, allowance - spent) {
-            Ok(Outcome::Finished(units)) => spent += units,
-            Ok(Outcome::Stopped(units)) => {
-                (spent, finished) = (spent + units, false);
-                break;
-            }
-            Ok(Outcome::Refused(number)) => return Err(unexpected(spent, number.into())),
-            Err(fault) => return Err(broken_off(spent, fault)),
-        }
-        progress.at(spent);
-    }
-    in_step(ordered.is_in_step(), spent)?;
-    Ok((spent, finished))
+    let mut spent = 0;
+    let outcome = ordered.calls(calls, allowance, |done| {
+        spent = done;
+        progress.at(done);
+    });
+    let (units, finished) = match outcome {
+        Ok(Outcome::Finished(units)) => (units, true),
+        Ok(Outcome::Stopped(units)) => (units, false),
+        Ok(Outcome::Refused(number)) => return Err(unexpected(spent, number.into())),
+        Err(fault) => return Err(broken_off(spent, fault)),
+    };
+    in_step(ordered.is_in_step(), units)?;
+    Ok((units, finished))
 }
 
 /// The last look at memory and file: whether both hold the same.
@@ -111,7 +114,7 @@ pub fn in_step(same: io::Result<bool>, spent: u64) -> Result<(), Failure> {
     }
 }
 
-/// For a disk that failed after these units, or in the epoch that follows them.
+/// For a disk that failed after these units, or in the batch that follows them.
 pub fn broken_off(spent: u64, fault: Fault) -> Failure {
     match fault {
         Fault::Unexpected(units) => unexpected(spent, units),
@@ -119,8 +122,8 @@ pub fn broken_off(spent: u64, fault: Fault) -> Failure {
             Failure::Other(format!("broken off after {spent} units or more: {}", unflushed(&error)))
         }
         Fault::Load(error) | Fault::Store(error) => Failure::Other(format!(
-            "broken off after {spent} units or more: {error}. The file holds the first units of \
-             the list, as after a power cut: check it, and repair it if it leaks."
+            "broken off after {spent} units or more: {error}. The file holds what a power cut \
+             would leave: check it, and repair it if it leaks."
         )),
     }
 }

@@ -32,12 +32,13 @@ pub fn run<D: Disk>(
     let parts = parts(&ordered, offset, length)
         .map_err(|number| refused(&path, &ordered, number, range))?;
     let calls = parts.into_iter().flatten().map(|cluster| Call::Discard { cluster });
-    let total = change::trial(&mut ordered, calls.clone())?.map_err(|(index, number)| {
-        let Some(Call::Discard { cluster }) = calls.clone().nth(index) else {
-            return Failure::Other(format!("refused ({number})"));
-        };
-        refused(&path, &ordered, number, Request::Discard { cluster })
-    })?;
+    let total =
+        change::trial(&mut ordered, allowance, calls.clone())?.map_err(|(index, number)| {
+            let Some(Call::Discard { cluster }) = calls.clone().nth(index) else {
+                return Failure::Other(format!("refused ({number})"));
+            };
+            refused(&path, &ordered, number, Request::Discard { cluster })
+        })?;
     let (units, finished) = change::run(&mut ordered, "discard", total, allowance, calls)?;
     let text = if finished {
         format!("discarded {length} bytes at {offset}: {}\n", report::units(units))

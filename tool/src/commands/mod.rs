@@ -12,8 +12,6 @@ pub mod repair;
 mod snapshot;
 pub mod write;
 
-use std::io::stdin;
-
 use crate::args::{Command, Options};
 use crate::backing::{Backing, Given, Watch};
 use crate::image_file::{notes_unread, Access, ImageFile, View};
@@ -87,9 +85,7 @@ fn answer(options: &Options, image: ImageFile, notes: &mut Vec<String>) -> Resul
         Command::Check { portion: None } => check::run(&image),
         Command::Check { portion: Some(asked) } => portion::run(&image, asked, notes),
         &Command::Repair { allowance, force } => repair::run(image, allowance, force),
-        &Command::Write { offset, allowance } => {
-            write::run(image, offset, &mut stdin().lock(), allowance)
-        }
+        &Command::Write { offset, allowance } => write::of_stdin(image, offset, allowance),
         &Command::Discard { offset, length, allowance } => {
             discard::run(image, offset, length, allowance)
         }

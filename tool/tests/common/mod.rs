@@ -1,6 +1,7 @@
 //! The built program run on copies of the images made by qemu.
 #![allow(dead_code)]
 
+pub mod batches;
 pub mod drive;
 pub mod growing;
 pub mod kept;

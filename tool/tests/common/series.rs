@@ -8,7 +8,7 @@ use super::drive::{all_torn, usable_over, Drive, Random};
 use super::promise::Promise;
 
 /// At times sets autoclear bits, where the image has a field for them.
-fn set_bits(image: &mut [u8], layout: &Layout, random: &mut Random) {
+pub fn set_bits(image: &mut [u8], layout: &Layout, random: &mut Random) {
     if layout.version == 3 && random.below(2) == 1 {
         image[88 + random.below(8)] = 1 + random.below(255) as u8;
     }
