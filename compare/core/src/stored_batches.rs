@@ -26,7 +26,7 @@ fn plan(made: &Made, ask: Ask, mut rows: Vec<u64>, held: usize) -> (u32, u64, Ve
     let (lent, m) = (rows.as_mut_ptr(), rows.len());
     macro_rules! over {
         ($call:ident, $($arg:expr),+) => {
-            ffi::$call(image, n, backing, b, $($arg,)+ lent, m, held, &mut count)
+            ffi::$call(image, n, backing, b, $($arg,)+ lent, m, held as u64, &mut count)
         };
     }
     // SAFETY: see the head of lib.rs; the scratch is as long as is said, or longer.
