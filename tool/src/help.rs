@@ -178,7 +178,7 @@ pub const WRITE: &str = concat!(
 qstore write IMAGE OFFSET [--backing FILE] [--json] [--allowance U]
 
 Writes standard input to the guest bytes from OFFSET on, guest cluster by guest
-cluster. The whole request is tried in memory first: if any part is refused,
+cluster. The whole request is judged first: if any part is refused,
 the file is not changed. Many guest clusters are stored at once: what nothing
 leads to yet is flushed before the entries that lead to it. So a power cut leaves
 an image that is sound or leaks, and each guest cluster old or new by itself; data
