@@ -17,7 +17,7 @@ use Rattle.batches.proofs.Allots.{no_refs, no_refs₀, allot_keep, allot_plan}
 use Rattle.batches.proofs.Writes.{value, alloc_call}
 use Rattle.batches.proofs.Known.{Known, fresh-apart}
 use Rattle.batches.proofs.Knows.{knows_allot}
-use Rattle.batches.proofs.Hidden.{Hidden, counted}
+use Rattle.batches.proofs.Unseen.{Hidden, counted}
 use Rattle.batches.proofs.Enter.{enter_knows, enter_known, enter_written, enter_early}
 use Rattle.batches.proofs.Batch.{Call, hidden-fill}
 

@@ -15,7 +15,7 @@ use Rattle.batches.proofs.Lists.{each_map, empty}
 use Rattle.batches.proofs.Planned.{Planned, Settled}
 use Rattle.batches.proofs.Extend.{grow_put, Step, extend, settle}
 use Rattle.batches.proofs.Known.{Known, known_now}
-use Rattle.batches.proofs.Hidden.{Hidden, counted, unnamed, marked}
+use Rattle.batches.proofs.Unseen.{Hidden, counted, unnamed, marked}
 use Rattle.batches.proofs.Shown.{Written, writes, joins}
 
 module _ (g : Geo) (K : Codec) (ok : GeoOk g K) (m0 : ℕ → ℕ → ℕ) (img : List ℕ) (k0 : Ok g K m0 img) (past : (ℕ → ℕ → ℕ) → Type 0) where

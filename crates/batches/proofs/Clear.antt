@@ -18,7 +18,7 @@ use Rattle.batches.proofs.Order.{passes}
 use Rattle.batches.proofs.Planned.{Planned}
 use Rattle.batches.proofs.Places.{quiet_step}
 use Rattle.batches.proofs.Known.{knows_still}
-use Rattle.batches.proofs.Hidden.{unread}
+use Rattle.batches.proofs.Unseen.{unread}
 use Rattle.batches.proofs.Batch.{Call}
 
 module _ (g : Geo) (K : Codec) (ok : GeoOk g K) (m0 : ℕ → ℕ → ℕ) (img : List ℕ) (k0 : Ok g K m0 img) (past : (ℕ → ℕ → ℕ) → Type 0) (role : ℕ → Use) (dead : ℕ → Type 0)

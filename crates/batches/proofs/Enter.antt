@@ -15,7 +15,7 @@ use Rattle.batches.proofs.Planned.{Planned}
 use Rattle.batches.proofs.Places.{one_table}
 use Rattle.batches.proofs.Steps.{before, among}
 use Rattle.batches.proofs.Known.{Known, known_now, knows_entry}
-use Rattle.batches.proofs.Hidden.{Hidden, unnamed}
+use Rattle.batches.proofs.Unseen.{Hidden, unnamed}
 use Rattle.batches.proofs.Shown.{Written, writes}
 
 module _ (g : Geo) (K : Codec) (ok : GeoOk g K) (m0 : ℕ → ℕ → ℕ) (img : List ℕ) (k0 : Ok g K m0 img) (past : (ℕ → ℕ → ℕ) → Type 0) (role : ℕ → Use) (dead : ℕ → Type 0)

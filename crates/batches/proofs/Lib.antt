@@ -20,7 +20,7 @@ pub mod Marks
 pub mod Repairs
 pub mod Known
 pub mod Shown
-pub mod Hidden
+pub mod Unseen
 pub mod After
 pub mod Knows
 pub mod Batch

@@ -19,7 +19,7 @@ use Rattle.batches.proofs.Links.{inner_keep, inner_cnt, less}
 use Rattle.batches.proofs.Tables.{Z, role₁, s₁, role₂, s₂, s₃, l_z, old, one, two, plan₁, zc₁, free_t, free_t₀, plan₂, free_t₂, free_c₀, plan₃, stored₃, entry_c, entry-0, t0, mc, filled, alive, used_t, only, rest, z₃, was, table_call}
 use Rattle.batches.proofs.Known.{Known, fresh-apart, knows_still, knows_link}
 use Rattle.batches.proofs.Knows.{knows_allot}
-use Rattle.batches.proofs.Hidden.{Hidden, counted, unnamed}
+use Rattle.batches.proofs.Unseen.{Hidden, counted, unnamed}
 use Rattle.batches.proofs.Shown.{joins}
 use Rattle.batches.proofs.Batch.{Call, hidden-fill}
 

@@ -16,7 +16,7 @@ use Rattle.batches.proofs.Prepared.{data_set}
 use Rattle.batches.proofs.Planned.{Planned}
 use Rattle.batches.proofs.Places.{Home, old, new, home, place-step}
 use Rattle.batches.proofs.Known.{Known, knows_place}
-use Rattle.batches.proofs.Hidden.{Hidden}
+use Rattle.batches.proofs.Unseen.{Hidden}
 use Rattle.batches.proofs.Batch.{Visible, Call, hidden-fill, marked-fill}
 
 module _ (g : Geo) (K : Codec) (ok : GeoOk g K) (m0 : ℕ → ℕ → ℕ) (img : List ℕ) (k0 : Ok g K m0 img) (past : (ℕ → ℕ → ℕ) → Type 0) (role : ℕ → Use) (dead : ℕ → Type 0)

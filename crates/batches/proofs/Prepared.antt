@@ -141,5 +141,6 @@ module _ (g : Geo) (K : Codec) (ok : GeoOk g K) (m0 : ℕ → ℕ → ℕ) (img 
 
   pub raised : (c : ℕ) → c < g.N → {us : List Store} → Each Ready us → Raises c us → (s : List ℕ) → Prepared s → 1 ≤ cnt g (mem g.C (apply_all g.C us s)) c
   unfolding apply_all
+  raised c l none q s p = elim q [ ]
   raised c l (also h hs) (here v o lv r) s p = stays_one c l hs _ (count_keeps s p c v l lv r) (rw (count_kept s p c v l lv r).new o)
   raised c l (also {u} h hs) (later q) s p = raised c l hs q (apply g.C u s) (ready_keeps u h s p)

@@ -14,7 +14,7 @@ use Rattle.batches.proofs.Steps.{before, among}
 use Rattle.batches.proofs.Places.{Home, old, new, home}
 use Rattle.batches.proofs.Marks.{keep₁, plan₁, c_n, value, marked_call}
 use Rattle.batches.proofs.Known.{Known}
-use Rattle.batches.proofs.Hidden.{Hidden}
+use Rattle.batches.proofs.Unseen.{Hidden}
 use Rattle.batches.proofs.Overwrite.{still_known}
 use Rattle.batches.proofs.Enter.{enter_knows, enter_known, enter_written, enter_early}
 use Rattle.batches.proofs.Batch.{Call, hidden-fill, marked-fill}

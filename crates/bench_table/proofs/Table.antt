@@ -8,8 +8,7 @@ use Rattle.tally.specs.Tally.{run, occurrences, figures}
 use Rattle.qcow2_spec.specs.Header.{version, cluster_size, clusters, disk_size, l1_size, l1_at, table_at, table_clusters, count_order, width, per_block, blocks, per_table, table, block_at, good_block, good_table, unsupported, too_big, odd_size, bad_tables, header_number, table_number, snapshots, snapshots_at, entry_end, snapshot_at, roots, root_size, root_at, bad_snapshot, snapshot_number, judge, autoclear, backing_offset, name_length, backed, bad_name, backing_number, some_lent, judge_lent}
 use Rattle.qcow2_spec.specs.Entries.{place, alone, good_place, common, good_l1, good_l2, compressed, zero_mark, new_entry}
 use Rattle.qcow2_spec.specs.Counts.{count_at, count_of, set_count, free_at, free_from, free}
-use Rattle.pieces.specs.Ranges.{touched}
-use Rattle.qcow2_spec.specs.Guest.{l1_entry_at, l1_entry, entry_way, l2_way, way, entry_gives, way_gives, located, translate, found_byte, guest_byte, guest_bytes, way_number, ways_number, reach, outside, read_number, translated, backing_byte, range_number}
+use Rattle.qcow2_spec.specs.Guest.{l1_entry_at, l1_entry, entry_way, l2_way, way, entry_gives, way_gives, located, translate, found_byte, guest_byte, guest_bytes, way_number, ways_number, reach, outside, touched, read_number, translated, backing_byte, range_number}
 use Rattle.qcow2_spec.specs.Runs.{same_found, goes_on, run_length, run_row, run_rows, list_runs, runs_listed}
 use Rattle.qcow2_spec.specs.Store.{own_slot, own_way, clear_units, clearing, judged, allot, write_new, write_table, write_slot, write_way, write_plan, discard_slot, discard_way, discard_plan, backing_cluster, new_bytes, write_list, cleared_entry, discard_list}
 use Rattle.qcow2_spec.specs.References.{l1_entries, l2_entries, named, l2_refs, table_refs, l1_refs, root_run, snapshot_run, fixed_refs, root_refs, tables_in, data_in, references, figures_of}

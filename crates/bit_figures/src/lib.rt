@@ -1,4 +1,6 @@
 // Whether figures of two bytes are 0 or 1 as bits, four at a time.
+#![tactic(auto)]
+
 ghost use Rattle.std.specs.Prelude.{◌≡◌, true, ℕ, ◌+◌, ◌*◌, ◌≤◌, ◌<◌, length};
 ghost use Rattle.endian.specs.Big.{be16};
 ghost use Rattle.widths.specs.Width.{number};

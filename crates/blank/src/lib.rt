@@ -1,4 +1,6 @@
 // Whether bytes are all 0.
+#![tactic(auto)]
+
 ghost use Rattle.std.specs.Prelude.{◌≡◌, eqb};
 ghost use Rattle.choice.specs.Pick.{all};
 

@@ -1,4 +1,6 @@
 // Counted loops that move bytes: the compiler makes memset and memmove of them.
+#![tactic(auto)]
+
 ghost use Rattle.std.specs.Prelude.{◌≡◌, ◌+◌, ◌≤◌, length, take, replicate};
 ghost use Rattle.endian.specs.Big.{splice};
 

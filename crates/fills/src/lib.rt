@@ -1,4 +1,6 @@
 // Runs of bytes and whole clusters, stored byte by byte within an allowance. Each is told what is left of it and returns what is left after it.
+#![tactic(auto)]
+
 ghost use Rattle.std.specs.Prelude.{◌≡◌, ◌+◌, ◌-◌, ◌≤◌, min, length, take, drop};
 ghost use Rattle.endian.specs.Big.{splice};
 ghost use Rattle.units.specs.Units.{apply_all, fill};

@@ -1,6 +1,6 @@
 // Reads an image of at most 65,536 bytes from standard input and writes what is to be said of it.
-use libc::{STDIN_FILENO, STDOUT_FILENO};
+#![tactic(auto)]
 
-fn main() {
-    image_report::tell(STDIN_FILENO, b"standard input", STDOUT_FILENO);
+fn main(rt: HostRuntime) {
+    image_report::tell(&rt, &mut rt.stdin(), "standard input", &mut rt.stdout());
 }

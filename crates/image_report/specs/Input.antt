@@ -4,7 +4,7 @@ use Rattle.io.specs.Counts.{IsPrefixLen}
 use Rattle.image_report.specs.declared.input.Input.{Input}
 use Rattle.image_report.specs.declared.input.Input.TheVariants.{Bytes, Failed}
 
--- the bytes that were read stand at the start of the buffer
+-- the bytes that were read stand at the start of the buffer; nothing is said where a read failed
 abbrev pub Within : Input → List ℕ → Type 0
 Within (Bytes n) xs = IsPrefixLen n xs
-Within Failed xs = Unit {0}
+Within (Failed why) xs = Unit {0}

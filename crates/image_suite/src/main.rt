@@ -1,27 +1,22 @@
 // Writes, for each image file that an argument names, the name and what the small program says of it.
-use libc::STDOUT_FILENO;
+#![tactic(auto)]
 
-fn image(name: &[u8]) {
-    let fd = os::open_read(name);
-    if fd < 0 {
-        os::fail(name);
-        return;
+use std::{env, fs, io};
+
+fn image(rt: &HostRuntime, name: &str) {
+    match fs::open(rt, name) {
+        Err(why) => image_report::fail(rt, name, why),
+        Ok(file) => {
+            let mut file = file;
+            image_report::tell(rt, &mut file, name, &mut rt.stdout());
+        }
     }
-    image_report::tell(fd, name, STDOUT_FILENO);
-    libc::close(fd);
 }
 
-// Argument i.
-fn named(i: usize) {
-    let mut name = [0u8; 256];
-    let n = os::arg(i, &mut name);
-    io::write_all(STDOUT_FILENO, &name[..n]);
-    io::write_all(STDOUT_FILENO, b"\n");
-    image(&name[..n]);
-}
-
-fn main() {
-    for i in 1..os::arg_count() {
-        named(i);
+fn main(rt: HostRuntime) -> io::Result<()> {
+    for name in env::args(&rt)?.skip(1) {
+        println!(rt; "{name}")?;
+        image(&rt, name.as_str());
     }
+    Ok(())
 }

@@ -1,10 +1,12 @@
 // Numbers of one width side by side: their bytes as the compiler loads many at a time. The crates above compare them by loops without an early exit,
 // which become vector code, with one promise for every width.
+#![tactic(auto)]
+
 ghost use Rattle.std.specs.Prelude.{◌≡◌, ◌+◌, ◌≤◌, length};
 ghost use Rattle.packed.specs.Lanes.{lanes, bytes_at};
 
 // Numbers against figures: how many differ, and how many are below the figure.
-#[derive(Drop)]
+#[derive(Clone, Copy)]
 pub struct Compared {
     pub unlike: u16,
     pub under: u16,

@@ -1,4 +1,6 @@
 // Numbers against figures of one byte each.
+#![tactic(auto)]
+
 ghost use Rattle.std.specs.Prelude.{◌≡◌, ◌≤◌, length};
 ghost use Rattle.choice.specs.Pick.{count};
 ghost use Rattle.packed.specs.Packed.{unlike_at, under_at, Lie, Single};

@@ -1,4 +1,6 @@
 // How many numbers of at most 8 bits are not 0, whole bytes at a time. Where no figure is above 0, these are the numbers that differ.
+#![tactic(auto)]
+
 ghost use Rattle.std.specs.Prelude.{◌≡◌, ◌*◌, ◌^◌, ◌-◌, ◌≤◌, ◌<◌, length};
 ghost use Rattle.choice.specs.Pick.{count};
 ghost use Rattle.packed_filled.specs.Filled.{bit_count, filled_in, filled_at};

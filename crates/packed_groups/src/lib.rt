@@ -1,5 +1,7 @@
 // Numbers of 32 bits against figures, by groups of 128: in an image with few references most figures are 0, and then the numbers that are not
 // are told without widening the figures.
+#![tactic(auto)]
+
 ghost use Rattle.std.specs.Prelude.{◌≡◌, ◌+◌, ◌≤◌, eqb, length, take, drop};
 ghost use Rattle.choice.specs.Pick.{all, count};
 ghost use Rattle.packed.specs.Packed.{unlike_at, under_at};

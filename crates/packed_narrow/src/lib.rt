@@ -1,4 +1,6 @@
 // Groups of bytes with whole numbers in each, against figures.
+#![tactic(auto)]
+
 ghost use Rattle.std.specs.Prelude.{◌≡◌, ◌+◌, ◌-◌, ◌*◌, ◌^◌, ◌≤◌, eqb, length};
 ghost use Rattle.choice.specs.Pick.{all, count};
 ghost use Rattle.packed.specs.Packed.{unlike_at, under_at};

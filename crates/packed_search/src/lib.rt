@@ -1,5 +1,7 @@
 // The search for a number that is 0: 512 bytes are passed over at a time, and only where one of their numbers is 0 it is looked for by 32 bytes
 // and then one by one.
+#![tactic(auto)]
+
 ghost use Rattle.std.specs.Prelude.{◌≡◌, ◌+◌, ◌-◌, ◌*◌, ◌%◌, ◌^◌, ◌≤◌, ltb, length, take, drop};
 ghost use Rattle.choice.specs.Pick.{first};
 ghost use Rattle.packed.specs.Packed.{Lie, zero_at};

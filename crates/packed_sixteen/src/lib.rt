@@ -1,4 +1,6 @@
 // Numbers of 16 bits against figures of two bytes: they and the figures are alike, two bytes with the highest first.
+#![tactic(auto)]
+
 ghost use Rattle.std.specs.Prelude.{◌≡◌, true, not, ◌&&◌, ◌+◌, ◌*◌, ◌/◌, ◌%◌, ◌≤◌, eqb, ltb};
 ghost use Rattle.choice.specs.Pick.{if◌then◌else◌};
 ghost use Rattle.packed_twos.specs.Twos.{Ready, Tallied};
@@ -60,7 +62,7 @@ fn alike16(block: &[u8], figures: &[u8]) -> bool
 }
 
 // What a pass over turned bytes counts: those that differ, and those that are zero where the figure is not; and the bits of all figures.
-#[derive(Drop)]
+#[derive(Clone, Copy)]
 pub(crate) struct Pass {
     pub(crate) unlike: u16,
     pub(crate) zeros: u16,

@@ -1,4 +1,6 @@
 // Whether one of the numbers of at most 8 bits in some bytes is 0.
+#![tactic(auto)]
+
 ghost use Rattle.std.specs.Prelude.{◌≡◌, ◌||◌, not, ◌*◌, ◌≤◌, ◌<◌, eqb, ltb, length};
 ghost use Rattle.choice.specs.Pick.{if◌then◌else◌};
 ghost use Rattle.packed.specs.Packed.{zero_at};

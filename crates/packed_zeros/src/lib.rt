@@ -1,4 +1,6 @@
 // Whether one of many numbers is 0.
+#![tactic(auto)]
+
 ghost use Rattle.std.specs.Prelude.{◌≡◌, ◌-◌, ◌^◌, ◌≤◌, ltb, length};
 ghost use Rattle.choice.specs.Pick.{first};
 ghost use Rattle.packed.specs.Packed.{zero_at};

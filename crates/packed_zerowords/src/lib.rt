@@ -1,4 +1,6 @@
 // Whether one of many numbers of whole bytes is 0.
+#![tactic(auto)]
+
 ghost use Rattle.std.specs.Prelude.{◌≡◌, ◌||◌, ◌*◌, ◌≤◌, eqb, length};
 ghost use Rattle.packed.specs.Packed.{zero_at};
 ghost use Rattle.packed_zerowords.specs.Found.{some};

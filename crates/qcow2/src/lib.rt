@@ -1,6 +1,8 @@
 // The calls on a qcow2 image: read, write, discard, check and repair over lent bytes. Each judges the header afresh, takes any
 // bytes and any numbers, and asks nothing of its caller. backing: the bytes of the image's backing file, a raw disk that no call writes to; where the
 // image has none they are not looked at. What an answer means is in qcow2_spec/specs/.
+#![tactic(auto)]
+
 ghost use Rattle.std.specs.Prelude.{◌≡◌, suc, ◌/◌, length};
 ghost use Rattle.units.specs.Plan.{Done};
 ghost use Rattle.qcow2_spec.specs.Guest.{translate as translation, read_number, read_into, in_place};

@@ -1,4 +1,6 @@
 // The rows of one more call, after those that a batch holds.
+#![tactic(auto)]
+
 ghost use Rattle.std.specs.Prelude.{◌≡◌, List, ◌++◌, ℕ, ◌+◌, ◌*◌, ◌/◌, ◌≤◌, ◌<◌, min, length};
 ghost use Rattle.qcow2_spec.specs.Header.{most_length, clusters};
 ghost use Rattle.qcow2_spec.specs.References.{figures_of};

@@ -1,4 +1,6 @@
 // How many L1 entries are ahead of a place of the check.
+#![tactic(auto)]
+
 ghost use Rattle.std.specs.Prelude.{◌≡◌, suc, ◌-◌, ◌*◌, ◌≤◌, ◌<◌, length};
 ghost use Rattle.qcow2_spec.specs.Header.{most_l1, most_snapshots, snapshots as shots, snapshot_at};
 ghost use Rattle.qcow2_spec.specs.Opened.{Opened, Active};

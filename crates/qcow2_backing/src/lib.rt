@@ -1,4 +1,6 @@
 // The backing file: whether number 19 applies, and where the name stands.
+#![tactic(auto)]
+
 ghost use Rattle.std.specs.Prelude.{◌≡◌, ◌^◌, ◌≤◌, length};
 ghost use Rattle.qcow2_spec.specs.Header.{most_bits, cluster_size, backing_offset, bad_name};
 ghost use Rattle.qcow2_spec.specs.Opened.{Opened};

@@ -1,4 +1,6 @@
 // The first bad entry of the L1 tables, and the first wrong mark of the active one.
+#![tactic(auto)]
+
 ghost use Rattle.std.specs.Prelude.{◌≡◌, ◌*◌, ◌<◌, length};
 ghost use Rattle.tally.specs.States.{twos};
 ghost use Rattle.qcow2_spec.specs.Header.{roots};

@@ -1,4 +1,6 @@
 // The lowest shared cluster of an image without snapshots, by its own bytes: one bit for each cluster of a window.
+#![tactic(auto)]
+
 ghost use Rattle.std.specs.Prelude.{◌≡◌, true, ◌+◌, ◌-◌, ◌*◌, ◌≤◌, min, length};
 ghost use Rattle.choice.specs.Pick.{first};
 ghost use Rattle.window.specs.Window.{board, bit_kind, visit_all_in};
@@ -16,7 +18,7 @@ use qcow2_swept::Sweep;
 
 // The lowest shared cluster or the number of clusters, whether all active entries have bit 63 beside their places, and whether the scratch has the
 // references of this image. Where a cluster is shared the last two say nothing.
-#[derive(Drop)]
+#[derive(Clone, Copy)]
 pub struct Looked {
     pub shared: usize,
     pub own: bool,

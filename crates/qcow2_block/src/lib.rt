@@ -1,4 +1,6 @@
 // The stored counts of one block against the scratch's figures: in steps, finer ones where a count is short.
+#![tactic(auto)]
+
 ghost use Rattle.std.specs.Prelude.{◌≡◌, ◌+◌, ◌*◌, ◌/◌, ◌≤◌, ◌<◌};
 ghost use Rattle.packed_twos.specs.Twos.{many, figures_in};
 ghost use Rattle.qcow2_counts.specs.Blocks.{Packed};
@@ -9,7 +11,7 @@ ghost use Rattle.qcow2_spec.specs.Header.{most_length, most_order};
 use tally::Counted;
 
 // How far the counts are judged: what was counted, how many of the clusters, the byte of the next count, and how many are compared at once.
-#[derive(Drop)]
+#[derive(Clone, Copy)]
 pub struct Judge {
     pub counted: Counted,
     pub done: usize,

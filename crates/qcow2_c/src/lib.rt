@@ -1,5 +1,7 @@
 // The calls for programs in C or Rust: numbers and byte slices only. include/qcow2_core.h declares them, and has the short forms that lend no bytes of a
 // backing file.
+#![tactic(auto)]
+
 ghost use Rattle.std.specs.Prelude.{◌≡◌, List, ℕ, suc, ◌/◌, eqb, length, true};
 ghost use Rattle.choice.specs.Pick.{if◌then◌else◌};
 ghost use Rattle.tally.specs.Tally.{difference};

@@ -1,4 +1,6 @@
 // The calls once the header is accepted: what the request must be, then the way, then the work.
+#![tactic(auto)]
+
 ghost use Rattle.std.specs.Prelude.{◌≡◌, suc, length};
 ghost use Rattle.units.specs.Plan.{Done};
 ghost use Rattle.qcow2_spec.specs.Opened.{Active};

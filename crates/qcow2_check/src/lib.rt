@@ -1,4 +1,6 @@
 // The check of an accepted image.
+#![tactic(auto)]
+
 ghost use Rattle.std.specs.Prelude.{◌≡◌, ◌&&◌, ◌*◌, ◌≤◌, ltb, eqb, length};
 ghost use Rattle.qcow2_spec.specs.References.{scratch_after};
 ghost use Rattle.qcow2_spec.specs.Check.{verdict};

@@ -1,4 +1,6 @@
 // The unit that clears the autoclear field, which comes before all others of a call.
+#![tactic(auto)]
+
 ghost use Rattle.std.specs.Prelude.{◌≡◌, ◌-◌, ◌≤◌, length, take};
 ghost use Rattle.units.specs.Units.{apply_all};
 ghost use Rattle.qcow2_spec.specs.Header.{version as versionOf};

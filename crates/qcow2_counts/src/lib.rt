@@ -1,5 +1,7 @@
 // Where the counts stand: refcount blocks by the refcount table, and places of counts in them. The table is read as it stands, so that a repair
 // can use it between its stores.
+#![tactic(auto)]
+
 ghost use Rattle.std.specs.Prelude.{◌≡◌, ◌+◌, ◌-◌, ◌*◌, ◌/◌, ◌%◌, ◌^◌, ◌≤◌, ◌<◌, length};
 ghost use Rattle.endian.specs.Big.{be64};
 ghost use Rattle.widths.specs.Width.{Inside};

@@ -1,4 +1,6 @@
 // A discard once the way is found. What it is to store is found before the first store.
+#![tactic(auto)]
+
 ghost use Rattle.std.specs.Prelude.{◌+◌, ◌^◌, ◌≤◌, [], ◌∷◌, ◌++◌, length};
 ghost use Rattle.widths.specs.Width.{Inside};
 ghost use Rattle.units.specs.Units.{count, entry};

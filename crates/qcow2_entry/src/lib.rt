@@ -1,4 +1,6 @@
 // Entries of L1 and L2 tables as numbers: their parts, and whether they are good.
+#![tactic(auto)]
+
 ghost use Rattle.std.specs.Prelude.{◌≡◌, ◌*◌, ◌^◌, ◌<◌, ◌≤◌, not, ◌||◌, eqb};
 ghost use Rattle.qcow2_spec.specs.Entries.{place, good_place, good_l1, good_l2, compressed, zero_mark, common};
 ghost use Rattle.qcow2_spec.specs.Header.{most_bits};

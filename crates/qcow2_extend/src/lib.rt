@@ -1,4 +1,6 @@
 // Taking in clusters that were appended to an image: refcount blocks are made for them.
+#![tactic(auto)]
+
 ghost use Rattle.units.specs.Plan.{Done};
 ghost use Rattle.qcow2_longer.specs.Extend.{extend_plan};
 

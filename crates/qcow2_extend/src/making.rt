@@ -9,7 +9,7 @@ use qcow2_spec::Geometry;
 
 // The refcount table's place, the bytes from one new block's place to the next, the bytes of a block, the byte of a new block that holds its own
 // count, and the blocks that the image needs.
-#[derive(Drop)]
+#[derive(Clone, Copy)]
 pub struct Layout {
     pub table: usize,
     pub span: usize,

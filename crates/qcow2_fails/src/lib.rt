@@ -1,4 +1,6 @@
 // Whether one entry fails: it is bad, or its mark is wrong.
+#![tactic(auto)]
+
 ghost use Rattle.std.specs.Prelude.{◌≡◌, true, not, ◌*◌, ◌/◌, ◌^◌, ◌≤◌, ◌<◌, length};
 ghost use Rattle.choice.specs.Pick.{if◌then◌else◌};
 ghost use Rattle.tally.specs.States.{twos};

@@ -1,4 +1,6 @@
 // The fields of the header: what is not supported, and the geometry that they give.
+#![tactic(auto)]
+
 ghost use Rattle.std.specs.Prelude.{◌≡◌, ◌||◌, ◌*◌, ◌/◌, ◌^◌, ◌≤◌, eqb, length};
 ghost use Rattle.choice.specs.Pick.{ceil_div};
 ghost use Rattle.qcow2_spec.specs.Header.{most_bits, most_length, count_order, unsupported};

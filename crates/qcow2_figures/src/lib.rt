@@ -1,4 +1,6 @@
 // Stored counts against the scratch's figures, two bytes each: one by one, or all at once.
+#![tactic(auto)]
+
 ghost use Rattle.std.specs.Prelude.{◌≡◌, ◌+◌, ◌*◌, ◌/◌, ◌^◌, ◌≤◌, ◌<◌};
 ghost use Rattle.packed_twos.specs.Twos.{many, figures_in};
 ghost use Rattle.qcow2_counts.specs.Blocks.{Packed};

@@ -1,4 +1,6 @@
 // Visiting the fixed places in a window: cluster 0, the clusters of the tables and the refcount blocks. Each returns the lowest cluster that was reached again.
+#![tactic(auto)]
+
 ghost use Rattle.std.specs.Prelude.{◌≡◌, ◌^◌, ◌≤◌, take};
 ghost use Rattle.tally.specs.Tally.{joined};
 ghost use Rattle.window.specs.Window.{board, visit_all_in};

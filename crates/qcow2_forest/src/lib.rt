@@ -1,4 +1,6 @@
 // All L1 tables: their references into the scratch, the lowest shared cluster, and how far the entries pass.
+#![tactic(auto)]
+
 ghost use Rattle.std.specs.Prelude.{◌≡◌, true, false, not, ◌*◌, eqb, length};
 ghost use Rattle.choice.specs.Pick.{first};
 ghost use Rattle.tally.specs.Tally.{wide};
@@ -13,7 +15,7 @@ use qcow2_spec::Geometry;
 use qcow2_trees::Spot;
 
 // The lowest shared cluster, or the number of clusters, and how far the entries pass.
-#[derive(Drop)]
+#[derive(Clone, Copy)]
 pub struct Tallied {
     pub shared: usize,
     pub root: usize,

@@ -1,4 +1,6 @@
 // What an L2 entry gives: its way, and what stands at a byte of its cluster.
+#![tactic(auto)]
+
 ghost use Rattle.std.specs.Prelude.{◌≡◌, ◌+◌, ◌*◌, ◌^◌, ◌<◌, ◌≤◌, length};
 ghost use Rattle.choice.specs.Pick.{if◌then◌else◌};
 ghost use Rattle.endian.specs.Big.{be64};

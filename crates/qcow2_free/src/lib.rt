@@ -1,5 +1,7 @@
 // The search for a free cluster. A refcount block is looked up once and searched without a division: 512 bytes are passed over at a time, and only
 // where one of their counts is 0 it is looked for by 32 bytes and then one by one (`packed_search`).
+#![tactic(auto)]
+
 ghost use Rattle.std.specs.Prelude.{◌≡◌, ◌+◌, ◌-◌, ◌*◌, ◌%◌, ◌^◌, ◌≤◌, ◌<◌};
 ghost use Rattle.choice.specs.Pick.{first};
 ghost use Rattle.qcow2_spec.specs.Header.{most_length};

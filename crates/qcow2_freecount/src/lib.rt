@@ -1,4 +1,6 @@
 // The number of free clusters: counts of 0 in the refcount blocks.
+#![tactic(auto)]
+
 ghost use Rattle.std.specs.Prelude.{◌≡◌, ◌*◌, ◌^◌, ◌≤◌, ◌<◌, eqb, length};
 ghost use Rattle.choice.specs.Pick.{if◌then◌else◌, count};
 ghost use Rattle.packed.specs.Packed.{zero_at};

@@ -1,4 +1,6 @@
 // Visiting what L2 entries refer to, and groups of 64 of them.
+#![tactic(auto)]
+
 ghost use Rattle.std.specs.Prelude.{◌≡◌, ◌+◌, ◌*◌, ◌/◌, ◌^◌, ◌<◌, ◌≤◌, length, nat_eq};
 ghost use Rattle.choice.specs.Pick.{if◌then◌else◌};
 ghost use Rattle.tally.specs.States.{visit_all};

@@ -9,8 +9,7 @@ use borrow.Author.Tests.{eq-eqb, ne_eqb, lt-ltb, le-ltb, lt-leb}
 use lib.ListN.{length}
 use Rattle.choice.proofs.Tests.{if_zero}
 use Rattle.qcow2_spec.specs.Header.{cluster_size, per_table, roots, root_size}
-use Rattle.pieces.specs.Ranges.{touched}
-use Rattle.qcow2_spec.specs.Guest.{reach, ways_number, outside, guest_bytes, range_number, range_into}
+use Rattle.qcow2_spec.specs.Guest.{reach, ways_number, outside, touched, guest_bytes, range_number, range_into}
 use Rattle.qcow2_spec.specs.Opened.{Opened}
 use Rattle.qcow2_spec.specs.declared.Geometry.{Geometry}
 use Rattle.qcow2_spec.proofs.Facts.{facts, c_pos, e_pos}

@@ -1,4 +1,6 @@
 // From a guest offset to its place in the image, for an image whose header was accepted.
+#![tactic(auto)]
+
 ghost use Rattle.std.specs.Prelude.{◌≡◌, ◌+◌, ◌-◌, ◌/◌, ◌%◌, ◌^◌, ◌<◌, ◌≤◌, min, length};
 ghost use Rattle.qcow2_spec.specs.Header.{most_bits, cluster_size, per_table, root_size};
 ghost use Rattle.qcow2_spec.specs.Guest.{reach, l1_entry, l2_way, way, located, translated};

@@ -1,4 +1,6 @@
 // The header's number alone: the first of the numbers 1 to 8, 18 and 9 that applies, with no look at the refcount table's entries.
+#![tactic(auto)]
+
 ghost use Rattle.std.specs.Prelude.{◌≡◌};
 ghost use Rattle.qcow2_spec.specs.Header.{header_number};
 ghost use Rattle.qcow2_limits.specs.Limits.{Known};

@@ -14,7 +14,7 @@ use qcow2_spec::{Geometry, Way};
 
 // Bytes into the cluster at a place; a whole cluster at a place and its entry's mark, given as entry and place; a new cluster, given as
 // whether its entry is a zero mark, its count's width and place, entry and place; or a new L2 table too.
-#[derive(Drop)]
+#[derive(Clone, Copy)]
 pub enum Job {
     Bytes(usize),
     Marked(usize, usize),
@@ -23,7 +23,7 @@ pub enum Job {
 }
 
 // A number, or what is to be stored.
-#[derive(Drop)]
+#[derive(Clone, Copy)]
 pub enum Decision {
     Refuse(u8),
     Store(Job),

@@ -13,14 +13,14 @@ ghost use Rattle.qcow2_jobs.specs.Jobs.{Releases};
 use qcow2_spec::{Geometry, Way};
 
 // The entry at a place becomes a number; or that, and then the count of some width at another, a bit's, becomes a number.
-#[derive(Drop)]
+#[derive(Clone, Copy)]
 pub enum Freed {
     Entry(usize, u64),
     Both(usize, u64, u32, usize, u64),
 }
 
 // A number, nothing to do, or what is to be stored.
-#[derive(Drop)]
+#[derive(Clone, Copy)]
 pub enum Release {
     Refuse(u8),
     Nothing,

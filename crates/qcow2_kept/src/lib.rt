@@ -1,4 +1,6 @@
 // The state of a check as bytes that a caller keeps, and a portion's answer as numbers for C.
+#![tactic(auto)]
+
 ghost use Rattle.std.specs.Prelude.{◌≡◌, ◌||◌, ◌++◌, ◌≤◌, eqb, length};
 ghost use Rattle.endian.specs.Big.{bytes64, splice};
 ghost use Rattle.qcow2_kept.specs.Kept.{numbers_of, verdict_of, numbers_at, state_of, seven_bytes, state_bytes, is_finished, is_refused as refusedIs, kept_after, answer_code, answer_first, answer_second, answer_third};
@@ -7,7 +9,7 @@ use qcow2_portion::{Answer, CheckState, Portion};
 use qcow2_spec::Verdict;
 
 // A verdict as numbers: its kind, and what it names.
-#[derive(Drop)]
+#[derive(Clone, Copy)]
 pub struct Numbers {
     pub kind: u64,
     pub a: u64,

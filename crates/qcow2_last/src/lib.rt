@@ -1,4 +1,6 @@
 // What the last portion of a check judges: sharing by the image's own bytes, counts and marks by these and the scratch.
+#![tactic(auto)]
+
 ghost use Rattle.std.specs.Prelude.{◌≡◌, ◌*◌, ◌≤◌, length};
 ghost use Rattle.choice.specs.Pick.{first};
 ghost use Rattle.packed_twos.specs.Twos.{figures_in};

@@ -1,4 +1,6 @@
 // The limits of the header's numbers, each a constant beside the test that uses it.
+#![tactic(auto)]
+
 ghost use Rattle.std.specs.Prelude.{◌≡◌, not, ◌||◌, ◌%◌, ◌≤◌, eqb, ltb};
 ghost use Rattle.qcow2_spec.specs.Header.{least_length, least_bits, most_bits, most_order, most_snapshots, most_name, sector};
 ghost use Rattle.qcow2_limits.specs.Limits.{Known, odd_length, oversize as Oversize};

@@ -1,1 +1,2 @@
 // A longer image, in definitions and laws: there is no code here.
+#![tactic(auto)]

@@ -1,4 +1,6 @@
 // Marks: bit 63 of the entries of good tables against the figures of a scratch of two bytes for each cluster.
+#![tactic(auto)]
+
 ghost use Rattle.std.specs.Prelude.{◌≡◌, true, ◌+◌, ◌*◌, ◌/◌, ◌^◌, ◌≤◌, ◌<◌, eqb, length};
 ghost use Rattle.choice.specs.Pick.{if◌then◌else◌, all};
 ghost use Rattle.tally.specs.States.{twos};

@@ -1,4 +1,6 @@
 // Counts of a refcount block that are to be figures, which stand in refs with two bytes each: a whole run at a time where that can be.
+#![tactic(auto)]
+
 ghost use Rattle.std.specs.Prelude.{◌≡◌, ◌+◌, ◌-◌, ◌*◌, ◌%◌, ◌≤◌, length, take};
 ghost use Rattle.units.specs.Units.{apply_all};
 ghost use Rattle.qcow2_spec.specs.Header.{most_length};

@@ -1,10 +1,12 @@
 // Which entries of a table are still 0, noted before the first store: what is stored may lie over the table itself.
+#![tactic(auto)]
+
 ghost use Rattle.std.specs.Prelude.{◌≡◌, ◌+◌, ◌-◌, ◌*◌, ◌≤◌, length};
 ghost use Rattle.choice.specs.Pick.{first};
 ghost use Rattle.qcow2_noted.specs.Noting.{unmade, mark_of, Noted};
 
 // The entries that were looked at, and how many of them are 0.
-#[derive(Drop)]
+#[derive(Clone, Copy)]
 pub struct Notes {
     pub seen: usize,
     pub missing: usize,

@@ -1,4 +1,6 @@
 // What a write or a discard is asked for, and its way: what it changes must have no other reference.
+#![tactic(auto)]
+
 ghost use Rattle.std.specs.Prelude.{◌≡◌, ◌/◌, ◌^◌, ◌≤◌, ◌<◌};
 ghost use Rattle.choice.specs.Pick.{ceil_div};
 ghost use Rattle.qcow2_spec.specs.Header.{most_bits, most_reach, per_table, root_size};

@@ -1,4 +1,6 @@
 // The rows of a batch against each other: which have bytes in common.
+#![tactic(auto)]
+
 ghost use Rattle.std.specs.Prelude.{◌≡◌, ◌&&◌, [], ◌∷◌, ◌+◌, ◌*◌, ◌≤◌, eqb, length, get_or};
 ghost use Rattle.qcow2_spec.specs.Steps.{whole};
 ghost use Rattle.qcow2_batches.specs.Batch.{meets, clash};

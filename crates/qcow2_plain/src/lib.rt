@@ -1,4 +1,6 @@
 // The usual entries, by whole numbers: a place and bit 63 or nothing, alone or with the zero mark.
+#![tactic(auto)]
+
 ghost use Rattle.std.specs.Prelude.{◌≡◌, ◌*◌, ◌^◌, ◌<◌, ◌≤◌};
 ghost use Rattle.qcow2_plain.specs.Plain.{bare, plain, marked};
 ghost use Rattle.qcow2_spec.specs.Header.{most_bits, most_length};

@@ -1,4 +1,6 @@
 // A call that is planned into a batch, once the way is found: a number, that the batch ends, or how many rows it holds then.
+#![tactic(auto)]
+
 ghost use Rattle.std.specs.Prelude.{◌≡◌, List, ℕ, ◌+◌, ◌^◌, ◌≤◌, ◌<◌, length};
 ghost use Rattle.qcow2_spec.specs.Store.{clearing, write_way, discard_way};
 ghost use Rattle.qcow2_spec.specs.Check.{verdict, verdict_plan};

@@ -1,4 +1,6 @@
 // A check in portions: its state goes in by value and comes out as the next one.
+#![tactic(auto)]
+
 ghost use Rattle.std.specs.Prelude.{◌≡◌, ◌*◌, ◌≤◌, length};
 ghost use Rattle.choice.specs.Pick.{if◌then◌else◌};
 ghost use Rattle.qcow2_spec.specs.Opened.{Active};
@@ -10,7 +12,7 @@ use qcow2_spec::{Geometry, Judged, Verdict};
 
 // Where a check stands: nothing is done yet; so far: the L1 table and the index after the last entry taken, and the first bad entry met (Sound
 // where none was); or its verdict is known. L1 table 0 is the active one, and k + 1 snapshot k's.
-#[derive(Drop)]
+#[derive(Clone, Copy)]
 pub enum CheckState {
     New,
     Going(usize, usize, Verdict),
@@ -18,7 +20,7 @@ pub enum CheckState {
 }
 
 // What a portion answers: a number; that entries are left; or the verdict.
-#[derive(Drop)]
+#[derive(Clone, Copy)]
 pub enum Answer {
     Refused(u8),
     More,
@@ -26,7 +28,7 @@ pub enum Answer {
 }
 
 // The next state, and the answer.
-#[derive(Drop)]
+#[derive(Clone, Copy)]
 pub struct Portion {
     pub state: CheckState,
     pub answer: Answer,

@@ -1,1 +1,2 @@
 // The definitions of a check in portions are in specs/.
+#![tactic(auto)]

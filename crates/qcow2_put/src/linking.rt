@@ -12,7 +12,7 @@ ghost use Rattle.widths.specs.Width.{Inside};
 use units::Outcome;
 
 // A unit of metadata: its place and its value; of a count also its width, as a power of two, and the place is a bit's.
-#[derive(Drop)]
+#[derive(Clone, Copy)]
 pub enum Cell {
     Count(u32, usize, u64),
     Entry(usize, u64),
@@ -123,7 +123,7 @@ pub fn put_bytes(image: &mut [u8], at: usize, src: &[u8], allowance: usize) -> O
 }
 
 // The places of a write where there is no L2 table: the width of a count as a power of two, the table's count and the table, the data's count and place, the L2 entry and the L1 entry.
-#[derive(Drop)]
+#[derive(Clone, Copy)]
 pub struct Places {
     pub order: u32,
     pub tablecount: usize,

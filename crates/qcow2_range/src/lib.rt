@@ -1,8 +1,7 @@
 // The number of a read: its range against the disk's size, then the ways to the guest clusters that it touches, rising.
 ghost use Rattle.std.specs.Prelude.{◌≡◌, ℕ, ◌+◌, ◌-◌, ◌*◌, ◌/◌, ◌%◌, ◌^◌, ◌<◌, ◌≤◌, true, length};
 ghost use Rattle.qcow2_spec.specs.Header.{most_bits, most_length, most_reach, per_table, root_size};
-ghost use Rattle.pieces.specs.Ranges.{touched};
-ghost use Rattle.qcow2_spec.specs.Guest.{entry_way, way_number, ways_number, range_number};
+ghost use Rattle.qcow2_spec.specs.Guest.{entry_way, way_number, ways_number, touched, range_number};
 ghost use Rattle.qcow2_spec.specs.Opened.{Opened};
 ghost use Rattle.qcow2_range.specs.Slots.{slot, numbers};
 

@@ -1,4 +1,6 @@
 // The disk's bytes: copied to an output, or as a part of the image itself.
+#![tactic(auto)]
+
 ghost use Rattle.std.specs.Prelude.{◌≡◌, ◌+◌, ◌-◌, ◌%◌, ◌^◌, ◌<◌, ◌≤◌, ◌++◌, length, take, drop};
 ghost use Rattle.qcow2_spec.specs.Header.{most_bits, most_length};
 ghost use Rattle.qcow2_spec.specs.Guest.{reach, guest_bytes, range_number, range_into, found_part, translated};

@@ -1,4 +1,6 @@
 // Visiting what one L1 table of an accepted image refers to, and how far its entries pass.
+#![tactic(auto)]
+
 ghost use Rattle.std.specs.Prelude.{◌≡◌, ◌<◌};
 ghost use Rattle.qcow2_spec.specs.Opened.{Opened};
 ghost use Rattle.qcow2_refs.specs.Walks.{row_at};
@@ -9,7 +11,7 @@ pub mod walk;
 
 // The state of a walk over an L1 table: the next entry, how many at the front pass with all below them, and how many pass at the front of
 // the table below the one after these.
-#[derive(Drop)]
+#[derive(Clone, Copy)]
 pub struct Progress {
     pub row: usize,
     pub good: usize,

@@ -1,4 +1,6 @@
 // The first wrong mark of the active tables where entries may be bad: a bad one is passed over, with all below it.
+#![tactic(auto)]
+
 ghost use Rattle.std.specs.Prelude.{◌≡◌, not, ◌+◌, ◌*◌, ◌^◌, ◌≤◌, length};
 ghost use Rattle.tally.specs.States.{twos};
 ghost use Rattle.qcow2_spec.specs.References.{l2_entries};

@@ -1,5 +1,7 @@
 // The repair of a leaking image: each count that differs from the scratch's figure, which has two bytes, is set to it, rising by cluster. The counts of
 // such an image lie apart from each other, from the refcount table and from the header, so that what is read on the way is what stood there on entry.
+#![tactic(auto)]
+
 ghost use Rattle.std.specs.Prelude.{◌≡◌, ◌+◌, ◌-◌, ◌%◌, ◌≤◌, ◌<◌, ◌++◌, length, take};
 ghost use Rattle.units.specs.Units.{apply_all};
 ghost use Rattle.units.specs.Plan.{units as planned, Done};
@@ -18,7 +20,7 @@ use qcow2_spec::{Geometry, Verdict};
 use units::Outcome;
 
 // What a repair is to do: a number, nothing, or to set counts.
-#[derive(Drop)]
+#[derive(Clone, Copy)]
 pub enum Mending {
     Refuse(u8),
     Nothing,

@@ -1,4 +1,6 @@
 // The steps of a call as rows of four numbers: where the bytes begin that it changes, how many they are, the units that store them, and their epoch.
+#![tactic(auto)]
+
 ghost use Rattle.std.specs.Prelude.{◌≡◌, [], ◌∷◌, ◌+◌, ◌/◌, ◌^◌, ◌≤◌};
 ghost use Rattle.widths.specs.Width.{span};
 ghost use Rattle.qcow2_spec.specs.Header.{most_length, most_order};

@@ -1,4 +1,6 @@
 // Runs of guest bytes that go on alike, for an image whose header was accepted.
+#![tactic(auto)]
+
 ghost use Rattle.std.specs.Prelude.{◌≡◌, ◌+◌, ◌-◌, ◌*◌, ◌/◌, ◌%◌, ◌^◌, ◌<◌, ◌≤◌, length};
 ghost use Rattle.endian.specs.Big.{splice};
 ghost use Rattle.qcow2_spec.specs.Guest.{reach, located};

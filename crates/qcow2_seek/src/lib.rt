@@ -1,4 +1,6 @@
 // One search over an L1 table, for its first bad entry or for its first wrong mark.
+#![tactic(auto)]
+
 ghost use Rattle.std.specs.Prelude.{◌≡◌, ◌≤◌};
 ghost use Rattle.choice.specs.Pick.{if◌then◌else◌};
 ghost use Rattle.tally.specs.States.{twos};

@@ -1,4 +1,6 @@
 // Counts that are to be figures, which stand in refs with two bytes each: every count that differs is set, one after another.
+#![tactic(auto)]
+
 ghost use Rattle.std.specs.Prelude.{◌≡◌, ◌+◌, ◌-◌, ◌*◌, ◌≤◌, length, take};
 ghost use Rattle.units.specs.Units.{apply_all};
 ghost use Rattle.qcow2_spec.specs.Header.{most_length};

@@ -1,4 +1,6 @@
 // The phase of the entry that a call stores, by the rows that the batch holds and the call's own.
+#![tactic(auto)]
+
 ghost use Rattle.std.specs.Prelude.{◌≡◌, ◌∷◌, ◌≤◌};
 ghost use Rattle.qcow2_spec.specs.Header.{most_length, most_order};
 ghost use Rattle.qcow2_spec.specs.Steps.{whole};

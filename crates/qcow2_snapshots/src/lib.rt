@@ -1,4 +1,6 @@
 // The snapshot table: its number, and the L1 tables of the snapshots.
+#![tactic(auto)]
+
 ghost use Rattle.std.specs.Prelude.{◌≡◌, suc, ◌^◌, ◌≤◌, ◌<◌, ltb, length};
 ghost use Rattle.choice.specs.Pick.{first};
 ghost use Rattle.qcow2_spec.specs.Header.{most_bits, most_length, cluster_size, snapshots as shots, snapshots_at, snapshot_at, bad_snapshot, snapshot_number, roots, root_size};

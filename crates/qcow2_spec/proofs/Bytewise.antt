@@ -15,8 +15,7 @@ use Rattle.choice.proofs.Tests.{if_yes, if_no, if_zero, if_elim, or-false, false
 use Rattle.endian.specs.Big.{be64, part}
 use Rattle.qcow2_spec.specs.Header.{version, cluster_size, disk_size, per_table, snapshots, roots, judge_lent, some_lent, judge}
 use Rattle.qcow2_spec.specs.Entries.{place, good_l1, good_l2, compressed, zero_mark}
-use Rattle.pieces.specs.Ranges.{touched}
-use Rattle.qcow2_spec.specs.Guest.{l1_entry, entry_way, l2_way, way, entry_gives, way_gives, way_number, ways_number, located, translated, translate, found_byte, guest_byte, guest_bytes, reach, outside, range_number, range_into, read_number, read_into}
+use Rattle.qcow2_spec.specs.Guest.{l1_entry, entry_way, l2_way, way, entry_gives, way_gives, way_number, ways_number, located, translated, translate, found_byte, guest_byte, guest_bytes, reach, outside, touched, range_number, range_into, read_number, read_into}
 use Rattle.qcow2_spec.specs.Bytewise.{refusal, bytes_number, bytewise, bytewise_into, Bytewise}
 use Rattle.qcow2_spec.specs.declared.Found.{Found}
 use Rattle.qcow2_spec.specs.declared.Found.TheVariants.{Host, Zeros, Absent, Refused}

@@ -19,8 +19,7 @@ use Rattle.qcow2_spec.specs.Header.{most_l1, version, cluster_size, per_table, r
 use Rattle.qcow2_spec.specs.Entries.{place, alone, good_l1, good_l2, common, compressed, zero_mark}
 use Rattle.qcow2_spec.specs.declared.Way.{Way}
 use Rattle.qcow2_spec.specs.declared.Way.TheVariants.{Bad as bad, NoTable as no_table, Slot as slot}
-use Rattle.pieces.specs.Ranges.{touched}
-use Rattle.qcow2_spec.specs.Guest.{l1_entry_at, l1_entry, entry_way, l2_way, way, entry_gives, way_gives, backing_byte, found_byte, located, guest_byte, guest_bytes, way_number, ways_number, reach, outside, range_number, range_into, read_number, read_into}
+use Rattle.qcow2_spec.specs.Guest.{l1_entry_at, l1_entry, entry_way, l2_way, way, entry_gives, way_gives, backing_byte, found_byte, located, guest_byte, guest_bytes, way_number, ways_number, reach, outside, touched, range_number, range_into, read_number, read_into}
 use Rattle.qcow2_spec.specs.declared.Found.{Found}
 use Rattle.qcow2_spec.specs.Store.{own_slot, own_way}
 use Rattle.choice.proofs.Tests.{true-not-false, if_no, if_elim, and-true, or-false}

@@ -3,7 +3,6 @@
 -- Assumes nothing.
 use Rattle.std.specs.Prelude.{ℕ, zero, suc, ◌+◌, ◌≡◌, List, [], ◌∷◌, leb, ltb, eqb, length}
 use Rattle.choice.specs.Pick.{if◌then◌else◌, unless, each}
-use Rattle.pieces.specs.Ranges.{first_number}
 use Rattle.qcow2_spec.specs.Header.{roots, judge}
 use Rattle.qcow2_spec.specs.Guest.{located, translate, found_byte, reach, read_number, read_into, in_place}
 use Rattle.qcow2_spec.specs.declared.Found.{Found}
@@ -18,7 +17,8 @@ refusal (Refused k) = k
 
 -- the first refusal among the len bytes from x on of the disk of L1 table t, rising; 0 where none is refused
 unfoldable pub bytes_number : List ℕ → (t x len : ℕ) → ℕ
-bytes_number s t = first_number (λ x. refusal (located s t x))
+bytes_number s t x zero = 0
+bytes_number s t x (suc l) = unless (refusal (located s t x)) (λ k. k) (bytes_number s t (suc x) l)
 
 -- a read's number: the image's own, then 11 where there is no such table or the range runs past what it reaches, then the first refusal of a byte
 unfoldable pub bytewise : (backing s : List ℕ) → (t x len : ℕ) → ℕ

@@ -1,7 +1,8 @@
 // The answers of the calls on a qcow2 image. The definitions are in specs/.
+#![tactic(auto)]
 
 // What a guest offset translates to.
-#[derive(Drop)]
+#[derive(Clone, Copy)]
 pub enum Found {
     Host(u64),
     Zeros,
@@ -10,7 +11,7 @@ pub enum Found {
 }
 
 // The way to a guest cluster: a number; no L2 table; or the place of its L2 entry and the entry, which is good.
-#[derive(Drop)]
+#[derive(Clone, Copy)]
 pub enum Way {
     Bad(u8),
     NoTable,
@@ -18,7 +19,7 @@ pub enum Way {
 }
 
 // What a listing of runs says: a number, or how many were listed.
-#[derive(Drop)]
+#[derive(Clone, Copy)]
 pub enum Listed {
     Refused(u8),
     Rows(usize),
@@ -26,7 +27,7 @@ pub enum Listed {
 
 // What a check says. An L1 entry is named by its index, an L2 entry by both indices; a bad one after the number of its L1 table,
 // 0 for the active one and k + 1 for snapshot k's. A wrong mark is one of the active tables.
-#[derive(Drop)]
+#[derive(Clone, Copy)]
 pub enum Verdict {
     Sound,
     Leaks(usize),
@@ -43,7 +44,7 @@ pub enum Verdict {
 // l1size entries and starts at l1at, and its disk has size bytes. The cluster size is 2 to the power bits, and a count has 2 to the power order
 // bits; the refcount table has tableclusters clusters and starts at tableat; blocks: the refcount blocks that the image needs; snapshots: how many
 // there are, and their table starts at snapshotsat; backed: a backing file lies underneath.
-#[derive(Drop)]
+#[derive(Clone, Copy)]
 pub struct Geometry {
     pub version: u32,
     pub bits: u32,
@@ -62,7 +63,7 @@ pub struct Geometry {
 }
 
 // A header's number, or what it gives.
-#[derive(Drop)]
+#[derive(Clone, Copy)]
 pub enum Judged {
     Refused(u8),
     Accepted(Geometry),

@@ -1,4 +1,6 @@
 // The lowest shared cluster of an image with snapshots, by its own bytes: two bytes for each cluster of a window tell how it was reached.
+#![tactic(auto)]
+
 ghost use Rattle.std.specs.Prelude.{◌≡◌, true, ◌+◌, ◌*◌, ◌/◌, ◌%◌, ◌≤◌, ◌<◌, length, replicate};
 ghost use Rattle.choice.specs.Pick.{first};
 ghost use Rattle.endian.specs.Big.{part};
@@ -16,7 +18,7 @@ use qcow2_spec::{Geometry, Verdict};
 use qcow2_swept::Sweep;
 
 // The lowest shared cluster or the number of clusters, and whether all entries are good.
-#[derive(Drop)]
+#[derive(Clone, Copy)]
 pub struct Looked {
     pub shared: usize,
     pub good: bool,

@@ -1,5 +1,7 @@
 // What a call that is to be made changes: for a store that runs it in memory and brings the bytes to a file. Each judges the header afresh, takes any
 // bytes and any numbers, and asks nothing of its caller. backing: the bytes of the backing file, as the call will be lent them.
+#![tactic(auto)]
+
 ghost use Rattle.std.specs.Prelude.{◌≡◌, List, ℕ, length};
 ghost use Rattle.qcow2_spec.specs.Store.{clearing, write_list, write_plan, discard_list, discard_plan};
 ghost use Rattle.qcow2_spec.specs.References.{scratch_counted, scratch_left};

@@ -1,4 +1,6 @@
 // Stretches of guest bytes below one L1 entry, which is looked up once for all of them.
+#![tactic(auto)]
+
 ghost use Rattle.std.specs.Prelude.{◌≡◌, ◌+◌, ◌/◌, ◌^◌, ◌<◌};
 ghost use Rattle.choice.specs.Pick.{if◌then◌else◌};
 ghost use Rattle.qcow2_spec.specs.Header.{per_table, root_size};
@@ -10,7 +12,7 @@ ghost use Rattle.qcow2_stretch.specs.Going.{Goes, Ahead, row_of};
 use qcow2_spec::{Found, Geometry};
 
 // What lies below an L1 entry.
-#[derive(Drop)]
+#[derive(Clone, Copy)]
 pub enum Row {
     Bad,
     Empty,

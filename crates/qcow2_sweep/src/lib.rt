@@ -1,4 +1,6 @@
 // A sweep over the entries of an L2 table: each visits what it refers to in a window, and is tested.
+#![tactic(auto)]
+
 ghost use Rattle.std.specs.Prelude.{◌≡◌, ◌+◌, ◌*◌, ◌%◌, ◌^◌, ◌≤◌, ◌&&◌, length, nat_eq};
 ghost use Rattle.choice.specs.Pick.{if◌then◌else◌, all};
 ghost use Rattle.tally.specs.Tally.{joined};
@@ -12,14 +14,14 @@ ghost use Rattle.qcow2_sweep.specs.Sweeps.{Whole, passes_by, group};
 const BITS: u16 = 512;
 
 // The lowest cluster that was reached again, and whether what was swept passes.
-#[derive(Drop)]
+#[derive(Clone, Copy)]
 pub struct Took {
     pub low: usize,
     pub good: bool,
 }
 
 // The lowest cluster that was reached again, and how many entries at the front pass.
-#[derive(Drop)]
+#[derive(Clone, Copy)]
 pub struct Seen {
     pub low: usize,
     pub fore: usize,

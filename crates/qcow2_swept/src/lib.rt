@@ -1,5 +1,7 @@
 // A sweep over entries of an L1 table and of the tables below them: each visits what it refers to in a window, an L2 table by one kind and what
 // stands below it by another, and the first that fails is named. A bad entry refers to nothing, and the sweep goes on past it.
+#![tactic(auto)]
+
 ghost use Rattle.std.specs.Prelude.{◌≡◌, ◌*◌, ◌+◌, ◌-◌, ◌/◌, ◌^◌, ◌≤◌, ◌<◌, length, take, drop};
 ghost use Rattle.window.specs.Window.{board, entry_visited_in, tree_visited_in};
 ghost use Rattle.qcow2_spec.specs.References.{table_refs, l1_refs, l1_entries, l2_entries};
@@ -19,7 +21,7 @@ use qcow2_sweep::Seen;
 const BITS: u16 = 512;
 
 // The lowest cluster that was reached again, and the first entry that failed: Sound where none did.
-#[derive(Drop)]
+#[derive(Clone, Copy)]
 pub struct Sweep {
     pub low: usize,
     pub found: Verdict,

@@ -1,4 +1,6 @@
 // Taking L1 entries, table by table: the references through them are added to the scratch, and the first bad one is named.
+#![tactic(auto)]
+
 ghost use Rattle.std.specs.Prelude.{◌≡◌, ◌-◌, ◌*◌, ◌≤◌, ◌<◌, length, take as take_of};
 ghost use Rattle.qcow2_spec.specs.Opened.{Active};
 ghost use Rattle.qcow2_portions.specs.Rows.{ahead, added, met, root_after, row_after, started};
@@ -8,7 +10,7 @@ use qcow2_spec::{Geometry, Verdict};
 use qcow2_swept::Sweep;
 
 // Where the check stands: the L1 table and the index after the last entry taken, how many are still to be taken, and the first bad one met.
-#[derive(Drop)]
+#[derive(Clone, Copy)]
 pub struct Taking {
     pub root: usize,
     pub row: usize,

@@ -1,5 +1,7 @@
 // Whether clusters that were appended to an image can be taken in: the first of the numbers 1 to 8, 18, 9, 10, 19 and 21 that applies, where 10 is
 // judged with the bytes that the image had before, old.
+#![tactic(auto)]
+
 ghost use Rattle.std.specs.Prelude.{◌≡◌, ◌+◌, ◌-◌, ◌*◌, ◌^◌, ◌≤◌, length};
 ghost use Rattle.qcow2_spec.specs.Header.{most_bits};
 ghost use Rattle.qcow2_longer.specs.Extend.{longer_number, extend_number};

@@ -1,4 +1,6 @@
 // The walk over all L1 tables in order.
+#![tactic(auto)]
+
 ghost use Rattle.std.specs.Prelude.{◌≡◌, ◌+◌, ◌*◌, ◌≤◌, ◌<◌, length};
 ghost use Rattle.tally.specs.States.{tree_visited};
 ghost use Rattle.qcow2_spec.specs.Header.{roots};
@@ -9,7 +11,7 @@ ghost use Rattle.qcow2_trees.specs.Walks.{table_by, data_by, roots_visited, onwa
 use qcow2_spec::Geometry;
 
 // Where a walk over the L1 tables stands: a table, an entry of it, and how many entries below that.
-#[derive(Drop)]
+#[derive(Clone, Copy)]
 pub struct Spot {
     pub root: usize,
     pub row: usize,

@@ -1,4 +1,6 @@
 // What lies underneath an image: the bytes of its backing file, which are lent.
+#![tactic(auto)]
+
 ghost use Rattle.std.specs.Prelude.{◌≡◌, length};
 ghost use Rattle.qcow2_under.specs.Under.{lent_bytes, under_bytes};
 

@@ -1,4 +1,6 @@
 // The steps of a call once the way is found, over an image that can't be changed: a number, or rows of the bytes that it changes, epoch by epoch.
+#![tactic(auto)]
+
 ghost use Rattle.std.specs.Prelude.{◌≡◌, List, ◌++◌, ℕ, ◌+◌, ◌/◌, ◌^◌, ◌≤◌, ◌<◌, min, length};
 ghost use Rattle.units.specs.Plan.{units};
 ghost use Rattle.qcow2_spec.specs.Header.{clusters};

@@ -1,4 +1,6 @@
 // The lowest shared cluster by an image's own bytes, window by window, and what the sweeps tell of entries and marks.
+#![tactic(auto)]
+
 ghost use Rattle.std.specs.Prelude.{◌≡◌, ◌*◌, ◌≤◌, length};
 ghost use Rattle.qcow2_spec.specs.Opened.{Active};
 ghost use Rattle.qcow2_windows.specs.Looks.{Looks};
@@ -7,7 +9,7 @@ use qcow2_spec::Geometry;
 
 // The lowest shared cluster or the number of clusters; whether all active entries are good; whether their marks are right by the scratch, which is
 // told only where there are no snapshots.
-#[derive(Drop)]
+#[derive(Clone, Copy)]
 pub struct Looked {
     pub shared: usize,
     pub good: bool,

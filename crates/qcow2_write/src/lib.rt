@@ -1,4 +1,6 @@
 // A write once the way is found. What it is to store is found before the first store.
+#![tactic(auto)]
+
 ghost use Rattle.std.specs.Prelude.{◌≡◌, ◌+◌, ◌*◌, ◌^◌, ◌≤◌, ◌<◌, [], ◌++◌, length};
 ghost use Rattle.choice.specs.Pick.{if◌then◌else◌};
 ghost use Rattle.units.specs.Plan.{units as planned, Done};

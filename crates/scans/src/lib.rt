@@ -1,4 +1,6 @@
 // Searches of a scratch of two bytes for each cluster.
+#![tactic(auto)]
+
 ghost use Rattle.std.specs.Prelude.{◌≡◌, ◌||◌, true, false, ◌+◌, ◌*◌, ◌/◌, ◌%◌, ◌≤◌, ltb, length};
 ghost use Rattle.choice.specs.Pick.{first};
 ghost use Rattle.endian.specs.Big.{be16};

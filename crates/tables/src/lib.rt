@@ -1,1 +1,2 @@
 // Two levels of tables, as definitions and laws: there is no code here.
+#![tactic(auto)]

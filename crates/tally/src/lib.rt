@@ -1,10 +1,12 @@
 // A scratch of figures, and stored counts against them.
+#![tactic(auto)]
+
 ghost use Rattle.std.specs.Prelude.{◌≡◌, length, replicate};
 
 pub mod against;
 
 // A stored count against a figure: below it, equal, or above it.
-#[derive(Drop)]
+#[derive(Clone, Copy)]
 pub enum Sign {
     Short,
     Even,
@@ -12,7 +14,7 @@ pub enum Sign {
 }
 
 // What the stored counts show so far: the lowest short cluster, or the number of clusters, and how many leak.
-#[derive(Drop)]
+#[derive(Clone, Copy)]
 pub struct Counted {
     pub low: usize,
     pub over: usize,

@@ -1,4 +1,6 @@
 // Clusters reached by walks, in a scratch of two bytes for each: how it was reached last, and how often.
+#![tactic(auto)]
+
 ghost use Rattle.std.specs.Prelude.{◌≡◌, ◌+◌, ◌*◌, ◌/◌, ◌%◌, ◌≤◌, ◌<◌, min, length};
 ghost use Rattle.endian.specs.Big.{be16, bytes16, splice};
 ghost use Rattle.tally.specs.States.{step as step_of, visited, unpacked};

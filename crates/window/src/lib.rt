@@ -1,4 +1,6 @@
 // Visits to clusters in a window: what lies outside is left alone. Each returns the lowest cluster that was reached again, where bits are set.
+#![tactic(auto)]
+
 ghost use Rattle.std.specs.Prelude.{◌≡◌, ◌+◌, ◌≤◌, ◌<◌};
 ghost use Rattle.tally.specs.Tally.{run};
 ghost use Rattle.window.specs.Window.{board, bit_visited, number_visited, visited_in, visit_all_in};

@@ -1,0 +1,14 @@
+use borrow.Author.Rules.{rules}
+use native.Mathlib.Omega.{arith}
+use Prim.Native.Nat.{◌+◌, ◌-◌, ◌*◌}
+use mathlib.Core.Path.{◌≡◌}
+use mathlib.Core.Bool.{false≢true}
+use Rattle.bit_figures.specs.Alike.{Alike}
+use Rattle.bit_figures.proofs.Laws.{alike_none, alike_less, alike_append}
+use Rattle.bit_figures.proofs.groups.Given as goal
+
+abbrev pub invariant-loop-g : goal.invariant-loop-g
+invariant-loop-g l = Alike l.scratch l.bits 0 (256 * l.g)
+
+abbrev pub decreases-loop-g : goal.decreases-loop-g
+decreases-loop-g l = l.n - l.g

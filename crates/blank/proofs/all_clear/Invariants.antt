@@ -1,0 +1,15 @@
+use borrow.Author.Rules.{rules}
+use native.Mathlib.Omega.{arith}
+use Prim.Native.Nat.{ℕ, ◌+◌, ◌-◌, ◌≤◌}
+use mathlib.Core.Path.{◌≡◌, refl, sym, ◌∙◌}
+use lib.ListN.{length, drop}
+use Rattle.choice.specs.Pick.{all}
+use Rattle.endian.proofs.Entries.{part-rest}
+use Rattle.blank.proofs.Zeros.{is_zero, group-next, group_stop}
+use Rattle.blank.proofs.all_clear.Given as goal
+
+abbrev pub invariant-loop-at : goal.invariant-loop-at
+invariant-loop-at l = (l.at ≤ length l.part) × (all is_zero (drop l.at l.part) ≡ all is_zero l.part)
+
+abbrev pub decreases-loop-at : goal.decreases-loop-at
+decreases-loop-at l = length l.part - l.at

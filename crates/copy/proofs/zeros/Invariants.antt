@@ -1,0 +1,15 @@
+use borrow.Author.Rules.{rules}
+use native.Mathlib.Omega.{arith}
+use Prim.Native.Nat.{◌-◌, ◌≤◌}
+use mathlib.Core.Path.{◌≡◌, refl, sym}
+use lib.ListN.{length, replicate, length-set}
+use Rattle.endian.specs.Big.{splice}
+use Rattle.endian.proofs.Laws.{splice-none}
+use Rattle.copy.proofs.Laws.{more-zeros}
+use Rattle.copy.proofs.zeros.Given as goal
+
+abbrev pub invariant-loop-i : goal.invariant-loop-i
+invariant-loop-i l = (l.i ≤ l.n) × (length l.s ≡ length l.initial.s) × (l.s ≡ splice l.initial.s l.at (replicate l.i 0))
+
+abbrev pub decreases-loop-i : goal.decreases-loop-i
+decreases-loop-i l = l.n - l.i

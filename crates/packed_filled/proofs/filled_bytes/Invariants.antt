@@ -1,0 +1,16 @@
+use borrow.Author.Rules.{rules}
+use native.Mathlib.Nat.{mul-zero}
+use native.Mathlib.Omega.{arith}
+use Prim.Native.Nat.{◌+◌, ◌-◌, ◌*◌, ◌^◌, ◌≤◌}
+use mathlib.Core.Path.{◌≡◌, refl, sym, ap, ap₂, ◌∙◌}
+use lib.ListN.{length}
+use Rattle.choice.specs.Pick.{count}
+use Rattle.packed_filled.specs.Filled.{filled_in, filled_at}
+use Rattle.packed_filled.proofs.Filling.{byte-filled}
+use Rattle.packed_filled.proofs.filled_bytes.Given as goal
+
+abbrev pub invariant-loop-b : goal.invariant-loop-b
+invariant-loop-b l = ((l.b ≤ length l.block) × (l.n ≤ 8 * l.b)) × (l.n ≡ count (filled_at l.order l.block) 0 (2 ^ (3 - l.order) * l.b))
+
+abbrev pub decreases-loop-b : goal.decreases-loop-b
+decreases-loop-b l = length l.block - l.b

@@ -1,0 +1,15 @@
+use borrow.Author.Rules.{rules}
+use native.Mathlib.Omega.{arith}
+use Prim.Native.Nat.{◌-◌, ◌≤◌}
+use mathlib.Core.Path.{◌≡◌}
+use lib.ListN.{length}
+use Rattle.choice.specs.Pick.{count}
+use Rattle.packed_filled.specs.Filled.{filled_at}
+use Rattle.packed_filled.proofs.Filling.{whole-filled}
+use Rattle.packed_filled.proofs.filled_whole.Given as goal
+
+abbrev pub invariant-loop-b : goal.invariant-loop-b
+invariant-loop-b l = ((l.b ≤ length l.block) × (l.n ≤ l.b)) × (l.n ≡ count (filled_at 3 l.block) 0 l.b)
+
+abbrev pub decreases-loop-b : goal.decreases-loop-b
+decreases-loop-b l = length l.block - l.b

@@ -1,0 +1,9 @@
+use borrow.Author.Rules.{rules}
+use native.Mathlib.Omega.{arith}
+use Rattle.widths.specs.Width.{field}
+use Rattle.packed.specs.Lanes.{lanes, parts}
+use Rattle.packed_lanes.proofs.halves.spread16.Goals as goal
+
+pub returns : goal.returns
+unfolding lanes parts field
+returns c = omega (arith, c.requires)

@@ -1,0 +1,39 @@
+use borrow.Author.Rules.{rules}
+use native.Mathlib.Omega.{arith}
+use Prim.Native.Nat.{◌+◌, ◌-◌, ◌*◌, ◌%◌, ◌^◌, ◌≤◌}
+use mathlib.Core.Path.{◌≡◌, refl, sym, ◌∙◌}
+use Rattle.choice.specs.Pick.{first}
+use Rattle.packed.specs.Packed.{zero_at}
+use Rattle.packed.proofs.Laws.{lie_few}
+use Rattle.packed_search.proofs.Groups.{lie_fewer, group-next, group_missed}
+use Rattle.packed_search.proofs.far_end.Goals as goal
+
+pub overflow_sub-order : goal.overflow_sub-order
+overflow_sub-order c = omega (arith, c.requires.0.0.few)
+
+pub loop-k-init : goal.loop-k-init
+loop-k-init c = (c.requires.0.1, (c.requires.1, refl))
+
+pub zero_far-requires : goal.zero_far-requires
+zero_far-requires c =
+    let t = c.loop-k in
+    let e = c.power-step.ensures.0 in
+    (lie_fewer c.requires.0.0 (t.k + 2 ^ (12 - c.args.order)) (omega (arith, e, t.invariant.0, c.loop-k-test.true)), t.invariant.1.0)
+
+pub returns-then-zero_far : goal.returns-then-zero_far
+returns-then-zero_far c = let t = c.loop-k in (t.invariant.0, t.invariant.1.1)
+
+pub overflow_add-k : goal.overflow_add-k
+overflow_add-k c = omega (arith, lie_few c.requires.0.0, c.loop-k-test.true)
+
+pub loop-k-preserved : goal.loop-k-preserved
+loop-k-preserved c =
+    let t = c.loop-k in
+    let a = c.args in
+    let p = c.power-step in
+    let h : t.k + p.result ≤ a.end = omega (arith, t.invariant.0, c.loop-k-test.true) in
+    let m = group_missed (zero_at a.order a.block.now) t.k (2 ^ (12 - a.order)) p.result a.end p.ensures.0 h (sym c.zero_far.ensures ∙ c.if-zero_far.false) in
+    (h, (group-next a.order 9 t.k p.result (omega (arith, c.requires.0.0.few)) p.ensures.0 t.invariant.1.0, t.invariant.1.1 ∙ m))
+
+pub returns : goal.returns
+returns c = let t = c.loop-k in (t.invariant.0, t.invariant.1.1)

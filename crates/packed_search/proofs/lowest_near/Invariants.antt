@@ -1,0 +1,15 @@
+use borrow.Author.Rules.{rules}
+use native.Mathlib.Omega.{arith}
+use Prim.Native.Nat.{◌+◌, ◌-◌, ◌*◌, ◌%◌, ◌^◌, ◌≤◌}
+use mathlib.Core.Path.{◌≡◌, refl, sym, ◌∙◌}
+use Rattle.choice.specs.Pick.{first}
+use Rattle.packed.specs.Packed.{zero_at}
+use Rattle.packed.proofs.Laws.{lie_few}
+use Rattle.packed_search.proofs.Groups.{lie_fewer, group-next, group_missed}
+use Rattle.packed_search.proofs.lowest_near.Given as goal
+
+abbrev pub invariant-loop-k : goal.invariant-loop-k
+invariant-loop-k l = (l.k ≤ l.end) × ((2 ^ l.order * l.k % 8 ≡ 0) × (first (zero_at l.order l.block) l.j (l.end - l.j) ≡ first (zero_at l.order l.block) l.k (l.end - l.k)))
+
+abbrev pub decreases-loop-k : goal.decreases-loop-k
+decreases-loop-k l = l.end - l.k

@@ -1,0 +1,18 @@
+use borrow.Author.Rules.{rules}
+use native.Mathlib.Omega.{arith}
+use Prim.Native.Nat.{◌-◌, ◌*◌, ◌≤◌}
+use mathlib.Core.Path.{◌≡◌, refl}
+use mathlib.Core.Bool.{◌||◌}
+use lib.Dec.{eqb, ltb}
+use borrow.Author.Tests.{eq-eqb, ne_eqb}
+use Rattle.packed_zerowords.specs.Found.{some}
+use Rattle.packed_zerobytes.specs.Holds.{per}
+use Rattle.packed.specs.Packed.{zero_at}
+use Rattle.packed_zerobytes.proofs.Holding.{half-next}
+use Rattle.packed_zerobytes.proofs.some_halves.Given as goal
+
+abbrev pub invariant-loop-b : goal.invariant-loop-b
+invariant-loop-b l = (l.b ≤ l.n) × ((eqb l.low 0 || ltb l.least 16) ≡ some (zero_at 2 l.part) (per 2 * l.b))
+
+abbrev pub decreases-loop-b : goal.decreases-loop-b
+decreases-loop-b l = l.n - l.b

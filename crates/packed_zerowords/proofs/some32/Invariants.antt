@@ -1,0 +1,15 @@
+use borrow.Author.Rules.{rules}
+use native.Mathlib.Omega.{arith}
+use Prim.Native.Nat.{ℕ, ◌-◌, ◌≤◌}
+use mathlib.Core.Path.{◌≡◌, refl, ap, ◌∙◌}
+use lib.Dec.{eqb}
+use Rattle.packed_zerowords.specs.Found.{some}
+use Rattle.packed.specs.Packed.{zero_at}
+use Rattle.packed_zerowords.proofs.Wholes.{zero32, some_next}
+use Rattle.packed_zerowords.proofs.some32.Given as goal
+
+abbrev pub invariant-loop-i : goal.invariant-loop-i
+invariant-loop-i l = (l.i ≤ l.n) × (l.found ≡ some (zero_at 5 l.part) l.i)
+
+abbrev pub decreases-loop-i : goal.decreases-loop-i
+decreases-loop-i l = l.n - l.i

@@ -1,0 +1,21 @@
+use borrow.Author.Rules.{rules}
+use native.Mathlib.Omega.{arith}
+use Prim.Native.Nat.{ℕ, ◌+◌, ◌-◌, ◌*◌, ◌≤◌, ◌<◌}
+use mathlib.Core.Path.{◌≡◌, refl, ap, ◌∙◌}
+use mathlib.Core.Logic.{inl, inr}
+use lib.ListN.{length, get_or, length-set}
+use Rattle.choice.specs.Pick.{count}
+use Rattle.endian.specs.Big.{be64}
+use Rattle.qcow2_noted.specs.Noting.{mark_of, unmade}
+use Rattle.qcow2_noted.proofs.Marks.{mark_next, mark_most, count_next}
+use Rattle.qcow2_noted.proofs.note.Given as goal
+
+abbrev pub invariant-loop-k : goal.invariant-loop-k
+invariant-loop-k l =
+    ((l.k ≤ l.len) × (l.missing ≤ l.k))
+    × ((length l.marks ≡ length l.initial.marks)
+    × (((j : ℕ) → j < l.k → get_or l.marks j 0 ≡ mark_of (be64 l.image (l.at + 8 * j)))
+    × (l.missing ≡ count (unmade l.image l.at) 0 l.k)))
+
+abbrev pub decreases-loop-k : goal.decreases-loop-k
+decreases-loop-k l = l.len - l.k

@@ -1,0 +1,18 @@
+use borrow.Author.Rules.{rules}
+use borrow.Author.Tests.{ne_eqb}
+use native.Mathlib.Omega.{arith}
+use Prim.Native.Nat.{◌+◌, ◌-◌, ◌*◌, ◌≤◌}
+use mathlib.Core.Path.{◌≡◌, refl, ◌∙◌}
+use mathlib.Core.Bool.{false}
+use lib.Dec.{eqb}
+use Rattle.choice.specs.Pick.{first}
+use Rattle.choice.proofs.Searches.{first_turn}
+use Rattle.endian.specs.Big.{be64}
+use Rattle.qcow2_noted.specs.Noting.{unmade}
+use Rattle.qcow2_noted.proofs.skip.Given as goal
+
+abbrev pub invariant-loop-i : goal.invariant-loop-i
+invariant-loop-i l = (l.i ≤ l.end) × (first (unmade l.image l.table) l.from (l.end - l.from) ≡ first (unmade l.image l.table) l.i (l.end - l.i))
+
+abbrev pub decreases-loop-i : goal.decreases-loop-i
+decreases-loop-i l = l.end - l.i

@@ -1,0 +1,6 @@
+use borrow.Author.Rules.{rules}
+use Rattle.tally.proofs.Laws.{all-zeros}
+use Rattle.tally.proofs.clear.Goals as goal
+
+pub returns : goal.returns
+returns c = cc (all-zeros c.args.scratch.now)
