@@ -16,7 +16,7 @@ use Rattle.batches.proofs.Mixture.{Use, table, mix_new, mix_tab}
 use Rattle.batches.proofs.Lists.{each_map}
 use Rattle.batches.proofs.Planned.{blk_eq}
 use Rattle.batches.proofs.Units.{ready-table}
-use Rattle.batches.proofs.Hidden.{Hidden}
+use Rattle.batches.proofs.Unseen.{Hidden}
 use Rattle.batches.proofs.Steps.{before, among}
 use Rattle.batches.proofs.Batch.{Call, next}
 use Rattle.widths.specs.Width.{span}

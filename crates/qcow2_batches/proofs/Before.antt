@@ -14,7 +14,7 @@ use Rattle.cuts.proofs.Write.{MidP, place-run}
 use Rattle.batches.proofs.Mixture.{unused}
 use Rattle.batches.proofs.Prepared.{Prepared, ready_cut}
 use Rattle.batches.proofs.Places.{old, fill-ready}
-use Rattle.batches.proofs.Hidden.{hidden_cut}
+use Rattle.batches.proofs.Unseen.{hidden_cut}
 use Rattle.units.specs.Units.{UnitStore}
 use Rattle.units.specs.Units.{apply_all as applyAllU}
 use Rattle.units.specs.Plan.{Plan, refused, units, plan_units, stores_count}

@@ -15,7 +15,7 @@ use Rattle.cuts.proofs.Run.{Store, apply, apply_all, Each, each_append}
 use Rattle.cuts.proofs.Run.{none as eachNone}
 use Rattle.cuts.proofs.Call.{Ok, SameGuest, count_store, entry_store}
 use Rattle.batches.proofs.Steps.{before, among}
-use Rattle.batches.proofs.Hidden.{Hidden}
+use Rattle.batches.proofs.Unseen.{Hidden}
 use Rattle.batches.proofs.Discards.{cleared}
 use Rattle.batches.proofs.Enter.{enter_early}
 use Rattle.batches.proofs.Discard.{unmark, silent}

@@ -5,7 +5,7 @@ use mathlib.Core.Logic.{◌⊎◌, inl, inr, ◌≢◌}
 use mathlib.Core.List.{List, []}
 use Rattle.cuts.proofs.Cell.{mem}
 use Rattle.cuts.proofs.Run.{apply_all, fill, Each}
-use Rattle.batches.proofs.Hidden.{Hidden}
+use Rattle.batches.proofs.Unseen.{Hidden}
 use Rattle.batches.proofs.Batch.{Visible, Call}
 use Rattle.batches.proofs.Overwrite.{seen, overwrite}
 use Rattle.units.specs.Units.{UnitStore}

@@ -16,7 +16,7 @@ use Rattle.cuts.proofs.Call.{Ok, SameGuest, entry_store}
 use Rattle.cuts.proofs.Write.{small_around}
 use Rattle.batches.proofs.Lists.{picked-whole}
 use Rattle.batches.proofs.Prepared.{prepared_start}
-use Rattle.batches.proofs.Hidden.{Hidden, hidden_cut}
+use Rattle.batches.proofs.Unseen.{Hidden, hidden_cut}
 use Rattle.batches.proofs.Steps.{before, among}
 use Rattle.batches.proofs.Batch.{Call, marked-fill}
 use Rattle.batches.proofs.Places.{home}

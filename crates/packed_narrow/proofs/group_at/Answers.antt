@@ -1,26 +1,31 @@
 use borrow.Author.Rules.{rules}
 use native.Mathlib.Omega.{arith}
-use Prim.Native.Nat.{◌+◌, ◌≤◌}
-use mathlib.Core.Path.{refl}
+use Prim.Native.Nat.{ℕ, ◌+◌, ◌-◌, ◌*◌, ◌^◌, ◌≤◌}
+use mathlib.Core.Path.{◌≡◌, refl}
+use mathlib.Core.List.{List}
 use lib.ListN.{length}
+use Rattle.packed.specs.Figures.{Ready}
 use Rattle.packed_narrow.proofs.Groups.{bytes_in, part_grouped, part-counted}
 use Rattle.packed_narrow.proofs.group_at.Goals as goal
 
 -- the bytes lie in the block
-
-inside : (c : tie.After-shared-slice-known2) → c.before.before.args.k + c.before.before.args.d ≤ length c.before.before.args.block.now
-inside c =
-    let a = c.args in
-    bytes_in a.order c.requires.0 (length a.block.now) (length a.figures.now) (a.k + a.d) c.requires.1.0.0.fits (rw (← c.requires.2) c.requires.4)
+inside : (o : ℕ) (B F : List ℕ) (q k d : ℕ) → o ≤ 3 → Ready o B F → q ≡ 2 ^ (3 - o) → q * (k + d) ≤ length F → k + d ≤ length B
+inside o B F q k d h r e f = bytes_in o h (length B) (length F) (k + d) r.0.0.fits (rw (← e) f)
 
 pub overflow_add-k : goal.overflow_add-k
-overflow_add-k c = omega (arith, inside c)
+overflow_add-k c =
+    let a = c.args in
+    omega (arith, inside a.order a.block.now a.figures.now a.per a.k a.d c.requires.0 c.requires.1 c.requires.2 c.requires.4)
 
 pub slice_bounds-group-end : goal.slice_bounds-group-end
-slice_bounds-group-end c = inside c
+slice_bounds-group-end c =
+    let a = c.args in
+    inside a.order a.block.now a.figures.now a.per a.k a.d c.requires.0 c.requires.1 c.requires.2 c.requires.4
 
 pub overflow_add-k-2 : goal.overflow_add-k-2
-overflow_add-k-2 c = omega (arith, inside c)
+overflow_add-k-2 c =
+    let a = c.args in
+    omega (arith, inside a.order a.block.now a.figures.now a.per a.k a.d c.requires.0 c.requires.1 c.requires.2 c.requires.4)
 
 pub group-requires : goal.group-requires
 group-requires c =

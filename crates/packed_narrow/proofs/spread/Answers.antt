@@ -1,6 +1,7 @@
 use native.Mathlib.Omega.{arith}
 use mathlib.Core.Path.{◌≡◌}
 use Rattle.packed_narrow.proofs.spread.Goals as goal
+use Rattle.packed_narrow.proofs.spread.Goals.{Else-order-eq2}
 
 pub group1-requires : goal.group1-requires
 group1-requires c = rw c.if-order-eq0.true at c.requires.1
@@ -21,12 +22,11 @@ pub returns-then-order-eq2 : goal.returns-then-order-eq2
 returns-then-order-eq2 c = rw c.if-order-eq2.true c.group4.ensures
 
 -- what is left
-
-eight : (c : tie.Else3) → c.before.before.before.before.before.args.order ≡ 3
+eight : (c : Else-order-eq2) → c.args.order ≡ 3
 eight c = omega (arith, c.requires.0, c.if-order-eq0.false, c.if-order-eq1.false, c.if-order-eq2.false)
 
 pub group8-requires : goal.group8-requires
-group8-requires c = rw (eight c) at c.requires.1
+group8-requires c = rw (eight (goal.at.group8-requires c).Else-order-eq2) at c.requires.1
 
 pub returns : goal.returns
-returns c = rw (eight c) c.group8.ensures
+returns c = rw (eight (goal.at.returns c).Else-order-eq2) c.group8.ensures

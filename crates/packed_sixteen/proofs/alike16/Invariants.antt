@@ -1,0 +1,18 @@
+use borrow.Author.Rules.{rules}
+use native.Mathlib.Omega.{arith}
+use Prim.Native.Nat.{◌-◌, ◌≤◌}
+use mathlib.Core.Path.{◌≡◌, refl, sym, ◌∙◌}
+use mathlib.Core.Bool.{true}
+use Rattle.choice.specs.Pick.{count}
+use Rattle.widths.proofs.Cells.{Small}
+use Rattle.packed.specs.Packed.{unlike_at, under_at}
+use Rattle.packed_twos.specs.Twos.{twos, many}
+use Rattle.packed_sixteen.proofs.Told.{alike_next}
+use Rattle.packed_sixteen.proofs.alike16.Given as goal
+
+abbrev pub invariant-loop-j : goal.invariant-loop-j
+invariant-loop-j l =
+    (l.j ≤ l.m) × (l.same ≡ true → (count (unlike_at 4 l.block (twos l.figures l.m)) 0 l.j ≡ 0) × (count (under_at 4 l.block (twos l.figures l.m)) 0 l.j ≡ 0))
+
+abbrev pub decreases-loop-j : goal.decreases-loop-j
+decreases-loop-j l = l.m - l.j

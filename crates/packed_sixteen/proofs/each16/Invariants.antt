@@ -1,0 +1,18 @@
+use borrow.Author.Rules.{rules}
+use native.Mathlib.Omega.{arith}
+use Prim.Native.Nat.{◌-◌, ◌≤◌}
+use mathlib.Core.Path.{◌≡◌}
+use Rattle.choice.specs.Pick.{if◌then◌else◌, count}
+use Rattle.widths.proofs.Cells.{Small}
+use Rattle.packed.specs.Packed.{unlike_at, under_at}
+use Rattle.packed.proofs.Laws.{count_next}
+use Rattle.packed_twos.specs.Twos.{twos, many}
+use Rattle.packed_sixteen.proofs.Told.{unlike_told, under-told}
+use Rattle.packed_sixteen.proofs.each16.Given as goal
+
+abbrev pub invariant-loop-j : goal.invariant-loop-j
+invariant-loop-j l =
+    (l.j ≤ l.m) × ((l.unlike ≤ l.j) × (l.under ≤ l.j)) × (l.unlike ≡ count (unlike_at 4 l.block (twos l.figures l.m)) 0 l.j) × (l.under ≡ count (under_at 4 l.block (twos l.figures l.m)) 0 l.j)
+
+abbrev pub decreases-loop-j : goal.decreases-loop-j
+decreases-loop-j l = l.m - l.j

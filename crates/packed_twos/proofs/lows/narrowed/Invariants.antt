@@ -1,0 +1,15 @@
+use borrow.Author.Rules.{rules}
+use native.Mathlib.Omega.{arith}
+use Prim.Native.Nat.{◌-◌, ◌/◌, ◌%◌, ◌≤◌}
+use mathlib.Core.Path.{◌≡◌, refl, ◌∙◌}
+use lib.ListN.{length, length-set}
+use borrow.Author.Tests.{eqb-true}
+use Rattle.packed_twos.specs.Twos.{many, Narrow}
+use Rattle.packed_twos.proofs.Seen.{Seen, seen_none, seen_next, seen_narrow}
+use Rattle.packed_twos.proofs.lows.narrowed.Given as goal
+
+abbrev pub invariant-loop-j : goal.invariant-loop-j
+invariant-loop-j l = ((l.j ≤ l.m) × (length l.bytes ≡ length l.initial.bytes)) × Seen l.figures l.bytes l.seen l.j
+
+abbrev pub decreases-loop-j : goal.decreases-loop-j
+decreases-loop-j l = l.m - l.j

@@ -1,0 +1,16 @@
+use borrow.Author.Rules.{rules}
+use native.Mathlib.Omega.{arith}
+use mathlib.Core.Path.{◌≡◌}
+use Rattle.qcow2_counts.specs.Blocks.{per_of}
+use Rattle.qcow2_counts.proofs.run_of.Goals as goal
+
+pub overflow_sub-per : goal.overflow_sub-per
+overflow_sub-per c =
+    let e : c.per_block-per.result ≡ per_of c.args.g = c.per_block-per.ensures in
+    omega (arith, e, c.index_of.ensures.1)
+
+pub returns : goal.returns
+returns c =
+    let e : c.per_block-per.result ≡ per_of c.args.g = c.per_block-per.ensures in
+    let i = c.index_of.ensures in
+    ((omega (arith, e, i.0, i.1, c.lesser.ensures), omega (arith, e, i.0, i.1, c.lesser.ensures)), omega (arith, e, i.0, i.1, c.lesser.ensures))

@@ -1,0 +1,16 @@
+use native.Mathlib.Omega.{arith}
+use borrow.Author.Rules.{rules}
+use borrow.Author.Tests.{eq-eqb, ne_eqb}
+use Rattle.endian.specs.Big.{be32}
+use Rattle.qcow2_spec.specs.Header.{version}
+use Rattle.qcow2_fields.specs.Fields.{features}
+use Rattle.qcow2_fields.proofs.has_features.Goals as goal
+
+pub returns-then-load32-ne3 : goal.returns-then-load32-ne3
+unfolding features version
+returns-then-load32-ne3 c = rw (ne_eqb (be32 c.args.image.now 4) 3 (λ e. omega arith))
+
+pub returns : goal.returns
+unfolding features version
+returns c =
+    rw (eq-eqb (be32 c.args.image.now 4) 3 (omega arith), c.load64.ensures)

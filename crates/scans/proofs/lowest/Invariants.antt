@@ -1,0 +1,16 @@
+use borrow.Author.Rules.{rules}
+use native.Mathlib.Omega.{arith}
+use native.Mathlib.Nat.{sub-zero}
+use Prim.Native.Nat.{ℕ, ◌-◌, ◌≤◌}
+use mathlib.Core.Path.{◌≡◌, sym, ap, ◌∙◌}
+use mathlib.Core.Bool.{true, false, or-false}
+use Rattle.choice.specs.Pick.{first}
+use Rattle.choice.proofs.Searches.{first_turn, first-none}
+use Rattle.tally.specs.States.{flag, flag_at}
+use Rattle.scans.proofs.lowest.Given as goal
+
+abbrev pub invariant-loop-k : goal.invariant-loop-k
+invariant-loop-k l = (l.k ≤ l.n) × (first (flag_at l.alone l.scratch) l.k (l.n - l.k) ≡ first (flag_at l.alone l.scratch) 0 l.n)
+
+abbrev pub decreases-loop-k : goal.decreases-loop-k
+decreases-loop-k l = l.n - l.k
