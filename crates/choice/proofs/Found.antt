@@ -1,4 +1,5 @@
 -- What a search finds, and how many numbers of its range pass the test. Assumes nothing.
+use Rattle.std.specs.Prelude.{if◌then◌else◌}
 use Prim.Native.Nat.{ℕ, zero, suc, ◌+◌, ◌-◌, ◌≤◌, ◌<◌}
 use native.Mathlib.Nat.{zero-add, le_refl}
 use native.Mathlib.Decide.{ℕ_discrete}
@@ -8,7 +9,7 @@ use mathlib.Core.Logic.{◌⊎◌, inl, inr, ◌≢◌, ◌↔◌}
 use mathlib.Core.Bool.{Bool, true, false}
 use lib.Dec.{ltb}
 use borrow.Author.Tests.{ltb-true, ltb-false}
-use Rattle.choice.specs.Pick.{if◌then◌else◌, first, count}
+use Rattle.choice.specs.Pick.{first, count}
 use Rattle.choice.proofs.Tests.{if_yes, if_no, two_ways}
 
 -- where nothing passes

@@ -1,5 +1,6 @@
 -- A search by parts: some numbers first and then the others; and one run of numbers searched in place of another.
 -- Assumes nothing.
+use Rattle.std.specs.Prelude.{if◌then◌else◌}
 use Prim.Native.Nat.{ℕ, zero, suc, ◌+◌, ◌-◌, ◌≤◌, ◌<◌}
 use native.Mathlib.Nat.{add-zero, zero-add, add-suc, suc-add}
 use native.Mathlib.Omega.{arith}
@@ -7,7 +8,7 @@ use mathlib.Core.Path.{◌≡◌, refl}
 use mathlib.Core.Bool.{Bool, true, false}
 use lib.Dec.{ltb}
 use borrow.Author.Tests.{lt-ltb, le-ltb, ltb-true, ltb-false}
-use Rattle.choice.specs.Pick.{if◌then◌else◌, first}
+use Rattle.choice.specs.Pick.{first}
 
 -- where a search ends
 pub first-low : (p : ℕ → Bool) (i m : ℕ) → i ≤ first p i m

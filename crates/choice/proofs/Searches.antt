@@ -1,11 +1,12 @@
 -- Laws of the searches over a range of numbers.
 -- Assumes nothing.
+use Rattle.std.specs.Prelude.{if◌then◌else◌}
 use Prim.Native.Nat.{ℕ, zero, suc, ◌+◌, ◌-◌, ◌≤◌, ◌<◌}
 use mathlib.Core.Path.{◌≡◌, refl}
 use mathlib.Core.Bool.{Bool, true, false}
 use native.Mathlib.Nat.{add-zero, zero-add, add-suc, suc-add, add_assoc}
 use native.Mathlib.Omega.{arith}
-use Rattle.choice.specs.Pick.{if◌then◌else◌, first, count}
+use Rattle.choice.specs.Pick.{first, count}
 
 -- a search over a range: one of its turns
 pub first_turn : (p : ℕ → Bool) (k n : ℕ) → k < n → first p k (n - k) ≡ (if p k then k else first p (k + 1) (n - (k + 1)))

@@ -13,10 +13,16 @@ fn image(rt: &HostRuntime, name: &str) {
     }
 }
 
+// The image file of an argument.
+fn named(rt: &HostRuntime, name: &str) -> io::Result<()> {
+    println!(rt; "{name}")?;
+    image(rt, name);
+    Ok(())
+}
+
 fn main(rt: HostRuntime) -> io::Result<()> {
     for name in env::args(&rt)?.skip(1) {
-        println!(rt; "{name}")?;
-        image(&rt, name.as_str());
+        named(&rt, name.as_str())?;
     }
     Ok(())
 }

@@ -63,7 +63,12 @@ fn leaked<W: Write>(out: &mut W, v: Verdict) -> io::Result<()> {
 }
 
 // Counts that are not 0, counts that are 0, and leaked clusters.
-pub fn clusters_line<W: Write>(out: &mut W, used: usize, free: usize, v: Verdict) -> io::Result<()> {
+pub fn clusters_line<W: Write>(
+    out: &mut W,
+    used: usize,
+    free: usize,
+    v: Verdict,
+) -> io::Result<()> {
     out.write_all(b"clusters")?;
     field(out, used as u64)?;
     field(out, free as u64)?;

@@ -1,4 +1,5 @@
 -- Laws of counting and searching one number more. Assumes nothing.
+use Rattle.std.specs.Prelude.{if◌then◌else◌}
 use Prim.Native.Nat.{ℕ, suc, ◌+◌, ◌-◌, ◌*◌, ◌^◌, ◌≤◌, ◌<◌}
 use native.Mathlib.Nat.{mul-le-mul_left, mul-le-mul_right, sub-zero, zero-add, add-zero}
 use native.Mathlib.Omega.{arith}
@@ -7,7 +8,7 @@ use mathlib.Core.Bool.{Bool, true, false, ◌||◌}
 use lib.Dec.{eqb, ltb}
 use lib.Pow.{pow_pos}
 use borrow.Author.Tests.{lt-ltb, le-ltb, ltb-true, eq-eqb, ne_eqb, eqb-true, eqb-false}
-use Rattle.choice.specs.Pick.{if◌then◌else◌, first, count}
+use Rattle.choice.specs.Pick.{first, count}
 use Rattle.choice.proofs.Searches.{count_turns}
 use Rattle.choice.proofs.Runs.{first_split}
 use Rattle.widths.specs.Width.{Inside}

@@ -1,8 +1,7 @@
 // Numbers of 8 bits against figures.
 #![tactic(auto)]
 
-ghost use Rattle.std.specs.Prelude.{◌≡◌, not, ◌≤◌, eqb, ltb};
-ghost use Rattle.choice.specs.Pick.{if◌then◌else◌};
+ghost use Rattle.std.specs.Prelude.{◌≡◌, not, ◌≤◌, eqb, ltb, if◌then◌else◌};
 ghost use Rattle.packed.specs.Figures.{Tallied, Grouped};
 
 use packed::Compared;

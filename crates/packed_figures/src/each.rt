@@ -1,6 +1,6 @@
 // Numbers against figures, one by one.
-ghost use Rattle.std.specs.Prelude.{◌≡◌, not, ◌≤◌, eqb, ltb, length};
-ghost use Rattle.choice.specs.Pick.{if◌then◌else◌, count};
+ghost use Rattle.std.specs.Prelude.{◌≡◌, not, ◌≤◌, eqb, ltb, length, if◌then◌else◌};
+ghost use Rattle.choice.specs.Pick.{count};
 ghost use Rattle.packed.specs.Packed.{unlike_at, under_at, Lie};
 
 use packed::Compared;

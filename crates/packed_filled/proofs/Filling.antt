@@ -1,4 +1,5 @@
 -- Numbers of at most 8 bits that are not 0, a byte at a time. Assumes nothing.
+use Rattle.std.specs.Prelude.{if◌then◌else◌}
 use Prim.Native.Nat.{ℕ, ◌+◌, ◌-◌, ◌*◌, ◌/◌, ◌%◌, ◌^◌, ◌≤◌, ◌<◌}
 use native.Mathlib.Nat.{zero-add, sub-zero, mul-add, mul-one, one-mul}
 use native.Mathlib.Omega.{arith}
@@ -9,7 +10,7 @@ use lib.Bits.{bit_or, bit_and}
 use lib.Dec.{eqb}
 use lib.ListN.{get_or}
 use lib.Pow.{pow_mono}
-use Rattle.choice.specs.Pick.{if◌then◌else◌, count}
+use Rattle.choice.specs.Pick.{count}
 use Rattle.choice.proofs.Searches.{count_turns, count_same, count_most}
 use Rattle.widths.specs.Width.{field}
 use Rattle.packed.specs.Packed.{zero_at}

@@ -1,4 +1,5 @@
 -- Bytes side by side in one number: sums, comparisons and counts, byte by byte. Assumes nothing.
+use Rattle.std.specs.Prelude.{if◌then◌else◌}
 use Prim.Native.Nat.{ℕ, zero, suc, ◌+◌, ◌-◌, ◌*◌, ◌/◌, ◌%◌, ◌^◌, ◌≤◌, ◌<◌}
 use native.Mathlib.Nat.{add-zero, mul-suc}
 use native.Mathlib.Omega.{arith}
@@ -9,7 +10,7 @@ use lib.Bits.{bit_and, and_block, and_mask}
 use lib.Dec.{eqb, ltb}
 use lib.ListN.{length, get_or}
 use borrow.Author.Tests.{ltb-true, ltb-false, eq-eqb, ne_eqb}
-use Rattle.choice.specs.Pick.{if◌then◌else◌, count}
+use Rattle.choice.specs.Pick.{count}
 use Rattle.packed.specs.Packed.{packed, unlike_at, under_at, Single}
 use Rattle.packed.specs.Lanes.{lanes, parts, bytes_at}
 use Rattle.packed_lanes.specs.Sums.{above, sum, over_at}

@@ -1,4 +1,5 @@
 -- Numbers of 16 bits against figures of two bytes, told by their bytes turned round. Assumes nothing.
+use Rattle.std.specs.Prelude.{if◌then◌else◌}
 use Prim.Native.Nat.{ℕ, ◌+◌, ◌*◌, ◌/◌, ◌%◌, ◌≤◌, ◌<◌}
 use native.Mathlib.Decide.{ℕ_discrete}
 use native.Mathlib.Omega.{arith}
@@ -7,7 +8,7 @@ use mathlib.Core.Bool.{Bool, true, false, not, ◌&&◌}
 use mathlib.Core.List.{List}
 use lib.Dec.{eqb, ltb}
 use borrow.Author.Tests.{eq-eqb, ne_eqb, lt-ltb, le-ltb}
-use Rattle.choice.specs.Pick.{if◌then◌else◌, count}
+use Rattle.choice.specs.Pick.{count}
 use Rattle.endian.specs.Big.{be16}
 use Rattle.widths.proofs.Cells.{Small}
 use Rattle.widths.proofs.Whole.{be2}
@@ -15,7 +16,7 @@ use Rattle.packed.specs.Packed.{packed, unlike_at, under_at}
 use Rattle.packed.proofs.Laws.{eqb_same, count_next}
 use Rattle.packed.proofs.Turned.{turned2, whole16}
 use Rattle.packed_twos.specs.Twos.{twos}
-use Rattle.packed_twos.proofs.Laws.{get_d_twos}
+use Rattle.packed_twos.proofs.Laws.{get_or-twos}
 use Rattle.packed_twos.proofs.Seen.{loaded, loaded_back}
 
 loaded_most : (l : List ℕ) → Small l → (j : ℕ) → loaded l j < 65536
@@ -32,7 +33,7 @@ module _ (B F : List ℕ) (b : Small B) (f : Small F) (m j : ℕ) (h : j < m) wh
       let y = loaded_back F f j in
       let p = loaded_most B b j in
       let q = loaded_most F f j in
-      rw (number_is, get_d_twos F m j h, eqb_same (be16 B (2 * j)) (be16 F (2 * j)) (loaded B j) (loaded F j) (λ e. omega (arith, e, x, y, p, q)) (λ e. omega (arith, e, x, y)))
+      rw (number_is, get_or-twos F m j h, eqb_same (be16 B (2 * j)) (be16 F (2 * j)) (loaded B j) (loaded F j) (λ e. omega (arith, e, x, y, p, q)) (λ e. omega (arith, e, x, y)))
       (go (eqb (loaded B j) (loaded F j)))
     where
       go : (t : Bool) → ◌≡◌ {A = ℕ} (if not t then 1 else 0) (if t then 0 else 1)
@@ -42,7 +43,7 @@ module _ (B F : List ℕ) (b : Small B) (f : Small F) (m j : ℕ) (h : j < m) wh
   pub under-told : (x y : ℕ) → x ≡ loaded B j / 256 + loaded B j % 256 * 256 → y ≡ loaded F j / 256 + loaded F j % 256 * 256
       → ◌≡◌ {A = ℕ} (if under_at 4 B (twos F m) j then 1 else 0) (if ltb x y then 1 else 0)
   unfolding under_at
-  under-told x y p q = rw (number_is, get_d_twos F m j h, loaded_back B b j, loaded_back F f j, p, q)
+  under-told x y p q = rw (number_is, get_or-twos F m j h, loaded_back B b j, loaded_back F f j, p, q)
 
   -- one number more that is the figure
   pub alike_next : loaded B j ≡ loaded F j → (count (unlike_at 4 B (twos F m)) 0 j ≡ 0) × (count (under_at 4 B (twos F m)) 0 j ≡ 0)
@@ -57,7 +58,7 @@ module _ (B F : List ℕ) (b : Small B) (f : Small F) (m j : ℕ) (h : j < m) wh
 -- a number below a figure that is 0 or 1
 pub zero-told : (B F : List ℕ) → Small B → Small F → (m j : ℕ) → j < m → be16 F (2 * j) ≤ 1 → (eqb (loaded B j) 0 && not (eqb (loaded F j) 0)) ≡ under_at 4 B (twos F m) j
 unfolding under_at
-zero-told B F b f m j h o = rw (number_is B F b f m j h, get_d_twos F m j h) (go (ℕ_discrete (loaded B j) 0) (ℕ_discrete (loaded F j) 0))
+zero-told B F b f m j h o = rw (number_is B F b f m j h, get_or-twos F m j h) (go (ℕ_discrete (loaded B j) 0) (ℕ_discrete (loaded F j) 0))
   where
     x : be16 B (2 * j) ≡ loaded B j / 256 + loaded B j % 256 * 256
     x = loaded_back B b j

@@ -1,8 +1,7 @@
 // Numbers of 16 bits against figures of two bytes: they and the figures are alike, two bytes with the highest first.
 #![tactic(auto)]
 
-ghost use Rattle.std.specs.Prelude.{◌≡◌, true, not, ◌&&◌, ◌+◌, ◌*◌, ◌/◌, ◌%◌, ◌≤◌, eqb, ltb};
-ghost use Rattle.choice.specs.Pick.{if◌then◌else◌};
+ghost use Rattle.std.specs.Prelude.{◌≡◌, true, not, ◌&&◌, ◌+◌, ◌*◌, ◌/◌, ◌%◌, ◌≤◌, eqb, ltb, if◌then◌else◌};
 ghost use Rattle.packed_twos.specs.Twos.{Ready, Tallied};
 
 use packed::Compared;

@@ -18,14 +18,14 @@ pub length-twos : (l : List ℕ) (m : ℕ) → length (twos l m) ≡ m
 unfolding twos
 length-twos l m = length-each (λ k. be16 l (2 * k)) 0 m
 
-get_d_each : (f : ℕ → ℕ) (x m k : ℕ) → k < m → get_or (each f x m) k 0 ≡ f (x + k)
-get_d_each f x zero k h = absurd (omega arith)
-get_d_each f x (suc m) zero h = ap f (sym (add-zero x))
-get_d_each f x (suc m) (suc k) h = get_d_each f (suc x) m k (omega arith) ∙ ap f (omega arith)
+get_or-each : (f : ℕ → ℕ) (x m k : ℕ) → k < m → get_or (each f x m) k 0 ≡ f (x + k)
+get_or-each f x zero k h = absurd (omega arith)
+get_or-each f x (suc m) zero h = ap f (sym (add-zero x))
+get_or-each f x (suc m) (suc k) h = get_or-each f (suc x) m k (omega arith) ∙ ap f (omega arith)
 
-pub get_d_twos : (l : List ℕ) (m k : ℕ) → k < m → get_or (twos l m) k 0 ≡ be16 l (2 * k)
+pub get_or-twos : (l : List ℕ) (m k : ℕ) → k < m → get_or (twos l m) k 0 ≡ be16 l (2 * k)
 unfolding twos
-get_d_twos l m k h = get_d_each (λ i. be16 l (2 * i)) 0 m k h ∙ ap (λ (i : ℕ). be16 l (2 * i)) (zero-add k)
+get_or-twos l m k h = get_or-each (λ i. be16 l (2 * i)) 0 m k h ∙ ap (λ (i : ℕ). be16 l (2 * i)) (zero-add k)
 
 -- a list that has the numbers
 pub twos_are : (l t : List ℕ) (m : ℕ) → length t ≡ m → ((i : ℕ) → i < m → get_or t i 0 ≡ be16 l (2 * i)) → t ≡ twos l m
@@ -65,7 +65,7 @@ figures-wide fs f = let e : many (wide fs) ≡ length fs = omega (arith, length-
 pub twos-part : (l : List ℕ) (b m k : ℕ) → k < m → get_or (twos (part l (2 * b) (2 * m)) m) k 0 ≡ be16 l (2 * (b + k))
 twos-part l b m k h =
     let e : 2 * b + 2 * k ≡ 2 * (b + k) = omega arith in
-    get_d_twos (part l (2 * b) (2 * m)) m k h ∙ be16-same _ _ _ _ (part_same l (2 * b) (2 * m) (2 * k) 2 (omega arith)) ∙ ap (be16 l) e
+    get_or-twos (part l (2 * b) (2 * m)) m k h ∙ be16-same _ _ _ _ (part_same l (2 * b) (2 * m) (2 * k) 2 (omega arith)) ∙ ap (be16 l) e
 
 -- of the bytes of numbers
 pub twos-wide-part : (fs : List ℕ) → Fit fs → (b m k : ℕ) → b + m ≤ length fs → k < m → get_or (twos (part (wide fs) (2 * b) (2 * m)) m) k 0 ≡ get_or fs (b + k) 0
@@ -81,13 +81,13 @@ many_lent l b m h =
     rw (part_lent l b m, e) (omega arith)
 
 pub figures_lent : (l : List ℕ) (b m k : ℕ) → b + m ≤ many l → k < m → get_or (twos (take (2 * (b + m) - 2 * b) (drop (2 * b) l)) m) k 0 ≡ get_or (figures_in l) (b + k) 0
-figures_lent l b m k h i = rw (part_lent l b m) (twos-part l b m k i) ∙ sym (get_d_twos l (many l) (b + k) (omega arith))
+figures_lent l b m k h i = rw (part_lent l b m) (twos-part l b m k i) ∙ sym (get_or-twos l (many l) (b + k) (omega arith))
 
 -- bytes that begin with those of numbers
 pub figures-front : (l fs : List ℕ) → Fit fs → take (2 * length fs) l ≡ wide fs → (k : ℕ) → k < length fs → get_or (figures_in l) k 0 ≡ get_or fs k 0
 figures-front l fs f e k h =
     let n : 2 * length fs ≤ length l = omega (arith, sym (length-take (2 * length fs) l) ∙ ap length e ∙ length-wide fs) in
-    get_d_twos l (many l) k (omega arith)
+    get_or-twos l (many l) k (omega arith)
     ∙ be16-same _ _ _ _ (λ i b. sym (get_or-take (2 * length fs) l (2 * k + i) 0 (omega arith)))
     ∙ ap (λ (r : List ℕ). be16 r (2 * k)) e
     ∙ wide_at fs f k h

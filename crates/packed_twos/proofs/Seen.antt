@@ -14,7 +14,7 @@ use Rattle.power.proofs.Together.{or_high, or_low}
 use Rattle.widths.proofs.Cells.{Small}
 use Rattle.packed.specs.Packed.{Single}
 use Rattle.packed_twos.specs.Twos.{twos}
-use Rattle.packed_twos.proofs.Laws.{length-twos, get_d_twos, twos_are}
+use Rattle.packed_twos.proofs.Laws.{length-twos, get_or-twos, twos_are}
 use Rattle.packed.specs.Lanes.{lanes, bytes_at}
 use Rattle.packed.proofs.Turned.{turned2}
 
@@ -76,7 +76,7 @@ module _ (F b : List ℕ) (small : Small F) (seen m : ℕ) (s : Seen F b seen m)
   single_twos i = go (ltb i m) refl
     where
       go : (t : Bool) → ltb i m ≡ t → get_or (twos F m) i 0 ≤ 1
-      go true e = let l : i < m = ltb-true i m e in rw (get_d_twos F m i l) (figure i l).1
+      go true e = let l : i < m = ltb-true i m e in rw (get_or-twos F m i l) (figure i l).1
       go false e = rw (get_or-eq_default (twos F m) 0 {n = i} (rw (length-twos F m) (ltb-false i m e))) (omega arith)
 
   pub seen_narrow : m ≤ length b → (take m b ≡ twos F m) × Single (twos F m)

@@ -1,6 +1,5 @@
 // Numbers against figures, one by one.
-ghost use Rattle.std.specs.Prelude.{◌≡◌, not, ◌≤◌, ◌<◌, eqb, ltb};
-ghost use Rattle.choice.specs.Pick.{if◌then◌else◌};
+ghost use Rattle.std.specs.Prelude.{◌≡◌, not, ◌≤◌, ◌<◌, eqb, ltb, if◌then◌else◌};
 ghost use Rattle.packed_twos.specs.Twos.{Ready, Tallied};
 
 use packed::Compared;

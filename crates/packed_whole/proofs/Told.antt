@@ -1,4 +1,5 @@
 -- Numbers of whole bytes against figures of 0 and 1, told by their bytes turned round. Assumes nothing.
+use Rattle.std.specs.Prelude.{if◌then◌else◌}
 use Prim.Native.Nat.{ℕ, zero, suc, ◌+◌, ◌*◌, ◌≤◌}
 use native.Mathlib.Nat.{zero-mul}
 use native.Mathlib.Omega.{arith}
@@ -8,7 +9,6 @@ use mathlib.Core.List.{List}
 use lib.Dec.{eqb, ltb}
 use lib.ListN.{get_or}
 use borrow.Author.Tests.{le-ltb, eqb-true, eqb-false}
-use Rattle.choice.specs.Pick.{if◌then◌else◌}
 use Rattle.widths.specs.Width.{be}
 use Rattle.widths.proofs.Cells.{Small}
 use Rattle.packed.specs.Packed.{packed, unlike_at, under_at, Single}

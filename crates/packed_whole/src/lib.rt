@@ -1,8 +1,7 @@
 // Numbers of whole bytes against figures.
 #![tactic(auto)]
 
-ghost use Rattle.std.specs.Prelude.{◌≡◌, ◌+◌, ◌*◌, ◌≤◌, eqb};
-ghost use Rattle.choice.specs.Pick.{if◌then◌else◌};
+ghost use Rattle.std.specs.Prelude.{◌≡◌, ◌+◌, ◌*◌, ◌≤◌, eqb, if◌then◌else◌};
 ghost use Rattle.packed.specs.Figures.{Ready, Tallied};
 
 use packed::Compared;

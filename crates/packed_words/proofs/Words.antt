@@ -1,4 +1,5 @@
 -- One number of 32 bits more, and whether it is 0. Assumes nothing.
+use Rattle.std.specs.Prelude.{if◌then◌else◌}
 use Prim.Native.Nat.{ℕ, ◌+◌, ◌-◌, ◌*◌}
 use native.Mathlib.Nat.{add-zero, zero-mul}
 use native.Mathlib.Omega.{arith}
@@ -6,7 +7,7 @@ use mathlib.Core.Path.{◌≡◌, sym, ◌∙◌}
 use mathlib.Core.Bool.{Bool}
 use mathlib.Core.List.{List}
 use lib.Dec.{eqb}
-use Rattle.choice.specs.Pick.{if◌then◌else◌, count}
+use Rattle.choice.specs.Pick.{count}
 use Rattle.choice.proofs.Searches.{count_turns}
 use Rattle.widths.specs.Width.{be}
 use Rattle.widths.proofs.Cells.{Small}

@@ -1,8 +1,8 @@
 // Some numbers of 32 bits one after another: how many are not 0, and how they stand against figures.
 #![tactic(auto)]
 
-ghost use Rattle.std.specs.Prelude.{◌≡◌, ◌+◌, ◌*◌, ◌≤◌, eqb, length};
-ghost use Rattle.choice.specs.Pick.{if◌then◌else◌, count};
+ghost use Rattle.std.specs.Prelude.{◌≡◌, ◌+◌, ◌*◌, ◌≤◌, eqb, length, if◌then◌else◌};
+ghost use Rattle.choice.specs.Pick.{count};
 ghost use Rattle.packed.specs.Packed.{unlike_at, under_at};
 ghost use Rattle.packed.specs.Figures.{Ready};
 ghost use Rattle.packed_filled.specs.Filled.{filled_at};

@@ -1,4 +1,5 @@
 -- Numbers of a byte or less against 0, a byte at a time. Assumes nothing.
+use Rattle.std.specs.Prelude.{if◌then◌else◌}
 use Prim.Native.Nat.{ℕ, ◌+◌, ◌*◌, ◌/◌, ◌%◌, ◌≤◌, ◌<◌}
 use native.Mathlib.Nat.{zero-add, mul-add, mul-one}
 use native.Mathlib.Omega.{arith}
@@ -9,7 +10,7 @@ use lib.Bits.{bit_or, bit_and}
 use lib.Dec.{eqb, ltb}
 use lib.ListN.{get_or}
 use borrow.Author.Tests.{lt-ltb, le-ltb, ltb-true, ltb-false, eq-eqb, ne_eqb, eqb-true}
-use Rattle.choice.specs.Pick.{if◌then◌else◌, first}
+use Rattle.choice.specs.Pick.{first}
 use Rattle.choice.proofs.Runs.{first_split, first_shift}
 use Rattle.widths.specs.Width.{field}
 use Rattle.packed_zerowords.specs.Found.{some}

@@ -1,8 +1,7 @@
 // Whether one of the numbers of at most 8 bits in some bytes is 0.
 #![tactic(auto)]
 
-ghost use Rattle.std.specs.Prelude.{◌≡◌, ◌||◌, not, ◌*◌, ◌≤◌, ◌<◌, eqb, ltb, length};
-ghost use Rattle.choice.specs.Pick.{if◌then◌else◌};
+ghost use Rattle.std.specs.Prelude.{◌≡◌, ◌||◌, not, ◌*◌, ◌≤◌, ◌<◌, eqb, ltb, length, if◌then◌else◌};
 ghost use Rattle.packed.specs.Packed.{zero_at};
 ghost use Rattle.packed_zerowords.specs.Found.{some};
 ghost use Rattle.packed_zerobytes.specs.Holds.{per, holds};

@@ -1,7 +1,6 @@
 -- What is asked of the backing file, and what is shown of its name.
 -- Assumes nothing.
-use Rattle.std.specs.Prelude.{ℕ, Bool, not, ◌&&◌, ◌||◌, List}
-use Rattle.choice.specs.Pick.{if◌then◌else◌}
+use Rattle.std.specs.Prelude.{ℕ, Bool, not, ◌&&◌, ◌||◌, List, if◌then◌else◌}
 use Rattle.qcow2_spec.specs.Header.{backed, bad_name, name_length}
 
 -- 19, which the definitions leave without a name: a bad name, or no bytes lent

@@ -1,4 +1,5 @@
 -- One more call of a batch that stores nothing, or repairs: counts fall to the references. Assumes nothing.
+use Rattle.std.specs.Prelude.{if◌then◌else◌}
 use Prim.Native.Nat.{ℕ, zero, suc, ◌+◌, ◌≤◌, ◌<◌}
 use native.Mathlib.Omega.{arith}
 use mathlib.Core.Path.{◌≡◌, sym, subst}
@@ -7,7 +8,6 @@ use mathlib.Core.Bool.{Bool, true, false}
 use mathlib.Core.List.{List, [], ◌∷◌, ◌++◌}
 use lib.Dec.{eqb}
 use lib.ListN.{get_or}
-use Rattle.choice.specs.Pick.{if◌then◌else◌}
 use Rattle.cuts.proofs.Cell.{mem}
 use Rattle.cuts.proofs.Meta.{cnt, refs_of}
 use Rattle.cuts.proofs.Run.{Store, apply_all}

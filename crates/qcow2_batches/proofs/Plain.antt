@@ -1,4 +1,5 @@
 -- Rows read back: rows after others, and those of a call, which have the bytes of its extents. Assumes nothing.
+use Rattle.std.specs.Prelude.{if◌then◌else◌}
 use Prim.Native.Nat.{ℕ, zero, suc, ◌+◌, ◌-◌, ◌*◌, ◌/◌, ◌≤◌, ◌<◌}
 use native.Mathlib.Nat.{zero-add}
 use native.Mathlib.Omega.{arith}
@@ -9,7 +10,6 @@ use lib.Dec.{eqb}
 use lib.ListN.{length, take, drop, length-append, length-drop, take-append-drop}
 use lib.Seq.{length-take-le, take_all}
 use borrow.Author.Tests.{le-leb}
-use Rattle.choice.specs.Pick.{if◌then◌else◌}
 use Rattle.endian.specs.Big.{splice}
 use Rattle.units.specs.Units.{UnitStore}
 use Rattle.qcow2_spec.specs.Steps.{Extent, whole, covers, extents, rows_of, step_rows, rows_put}

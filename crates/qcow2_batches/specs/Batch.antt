@@ -1,7 +1,6 @@
 -- Several calls, planned one after another in memory and stored together in phases, with a flush between two.
 -- Assumes nothing.
-use Rattle.std.specs.Prelude.{ℕ, zero, suc, ◌≡◌, Bool, false, ◌||◌, List, [], ◌∷◌, ◌++◌, ltb, eqb, length, take, drop}
-use Rattle.choice.specs.Pick.{if◌then◌else◌}
+use Rattle.std.specs.Prelude.{ℕ, zero, suc, ◌≡◌, Bool, false, ◌||◌, List, [], ◌∷◌, ◌++◌, ltb, eqb, length, take, drop, if◌then◌else◌}
 use Rattle.widths.specs.Width.{number}
 use Rattle.units.specs.Units.{UnitStore, byte, entry, count, apply_all}
 use Rattle.units.specs.Plan.{plan_units}

@@ -1,8 +1,7 @@
 -- What a store that plans calls into a batch is told, row by row: four numbers each, where the bytes begin, how many they are, of how many units, and
 -- their phase. The caller holds the rows of the calls before; each call adds its own.
 -- Assumes nothing.
-use Rattle.std.specs.Prelude.{ℕ, zero, suc, ◌+◌, ◌*◌, ◌/◌, ◌≡◌, Bool, ◌&&◌, ◌||◌, List, [], ◌∷◌, ◌++◌, leb, ltb, eqb, length, get_or, take, drop}
-use Rattle.choice.specs.Pick.{if◌then◌else◌}
+use Rattle.std.specs.Prelude.{ℕ, zero, suc, ◌+◌, ◌*◌, ◌/◌, ◌≡◌, Bool, ◌&&◌, ◌||◌, List, [], ◌∷◌, ◌++◌, leb, ltb, eqb, length, get_or, take, drop, if◌then◌else◌}
 use Rattle.units.specs.Units.{UnitStore}
 use Rattle.units.specs.Plan.{Plan, refused, units}
 use Rattle.qcow2_spec.specs.Steps.{Extent, whole, extents, step_rows, rows_put}

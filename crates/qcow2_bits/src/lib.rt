@@ -4,7 +4,7 @@
 ghost use Rattle.std.specs.Prelude.{◌≡◌, true, ◌+◌, ◌-◌, ◌*◌, ◌≤◌, min, length};
 ghost use Rattle.choice.specs.Pick.{first};
 ghost use Rattle.window.specs.Window.{board, bit_kind, visit_all_in};
-ghost use Rattle.qcow2_spec.specs.Header.{clusters as clustersOf, snapshots as shots};
+ghost use Rattle.qcow2_spec.specs.Header.{clusters as clusters_of, snapshots as shots};
 ghost use Rattle.qcow2_spec.specs.References.{references, l1_entries};
 ghost use Rattle.qcow2_spec.specs.Check.{l1_verdict, shared_at};
 ghost use Rattle.qcow2_spec.specs.Opened.{Active};
@@ -28,7 +28,7 @@ pub struct Looked {
 // Sets the bits of what is referred to in the window from b on.
 fn sweep_bits(image: &[u8], window: &mut [u8], g: Geometry, b: usize) -> Sweep
     requires { Active g image.now × (shots image.now ≡ 0) }
-    ensures { (result.found ≡ l1_verdict image.now (seek_by bit_kind image.now 0) 0 (l1_entries image.now 0) Sound) × (board window.new result.low ≡ visit_all_in bit_kind b (references image.now) (board window.old (clustersOf image.now))) }
+    ensures { (result.found ≡ l1_verdict image.now (seek_by bit_kind image.now 0) 0 (l1_entries image.now 0) Sound) × (board window.new result.low ≡ visit_all_in bit_kind b (references image.now) (board window.old (clusters_of image.now))) }
 {
     let low = qcow2_fixed::visit_fixed(image, window, g.clusters, g, 512, b);
     let w = Sweep {
@@ -64,7 +64,7 @@ fn look_window(
 // All clusters, window by window: the lowest shared one ends the search.
 pub fn look(image: &[u8], scratch: &[u8], window: &mut [u8], g: Geometry) -> Looked
     requires { ((Active g image.now × (shots image.now ≡ 0)) × (length scratch.now ≡ 2 * g.clusters)) × (1 ≤ length window.old) }
-    ensures { (result.shared ≡ first (shared_at image.now) 0 (clustersOf image.now)) × (result.shared ≡ g.clusters → (result.own ≡ true → AllOwn image.now) × (result.same ≡ true → SameFrom image.now scratch.now 0 g.clusters)) }
+    ensures { (result.shared ≡ first (shared_at image.now) 0 (clusters_of image.now)) × (result.shared ≡ g.clusters → (result.own ≡ true → AllOwn image.now) × (result.same ≡ true → SameFrom image.now scratch.now 0 g.clusters)) }
 {
     let n = g.clusters;
     // More bytes than clusters are not needed, and eight times as many might be too large a number.

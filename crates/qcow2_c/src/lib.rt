@@ -2,11 +2,10 @@
 // backing file.
 #![tactic(auto)]
 
-ghost use Rattle.std.specs.Prelude.{◌≡◌, List, ℕ, suc, ◌/◌, eqb, length, true};
-ghost use Rattle.choice.specs.Pick.{if◌then◌else◌};
+ghost use Rattle.std.specs.Prelude.{◌≡◌, List, ℕ, suc, ◌/◌, eqb, length, true, if◌then◌else◌};
 ghost use Rattle.tally.specs.Tally.{difference};
 ghost use Rattle.units.specs.Plan.{outcome, after};
-ghost use Rattle.qcow2_spec.specs.Header.{cluster_bits, disk_size, clusters as clustersOf, backing_offset, judge_lent, judge};
+ghost use Rattle.qcow2_spec.specs.Header.{cluster_bits as bits_of, disk_size, clusters as clusters_of, backing_offset, judge_lent, judge};
 ghost use Rattle.qcow2_backing.specs.Backing.{shown_length};
 ghost use Rattle.qcow2_spec.specs.Guest.{translate, read_number, read_into, in_place};
 ghost use Rattle.qcow2_spec.specs.Runs.{found_code, found_host, list_runs, runs_into};
@@ -190,7 +189,7 @@ pub extern "C" fn qcow2_backed_geometry(
     size: &mut u64,
     clusters: &mut u64,
 ) -> u32
-    ensures { (result ≡ judge backing.now image.now) × ((cluster_bits.new ≡ (if eqb (judge backing.now image.now) 0 then cluster_bits image.now else 0)) × ((size.new ≡ (if eqb (judge backing.now image.now) 0 then disk_size image.now else 0)) × (clusters.new ≡ (if eqb (judge backing.now image.now) 0 then clustersOf image.now else 0)))) }
+    ensures { (result ≡ judge backing.now image.now) × ((cluster_bits.new ≡ (if eqb (judge backing.now image.now) 0 then bits_of image.now else 0)) × ((size.new ≡ (if eqb (judge backing.now image.now) 0 then disk_size image.now else 0)) × (clusters.new ≡ (if eqb (judge backing.now image.now) 0 then clusters_of image.now else 0)))) }
 {
     let j = qcow2_header::judge(image, backing.len() != 0);
     match j {

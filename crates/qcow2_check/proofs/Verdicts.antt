@@ -1,13 +1,13 @@
 -- Laws of the verdict: a bad entry first, then what the counts show.
 -- Assumes nothing.
+use Rattle.std.specs.Prelude.{if◌then◌else◌}
 use Prim.Native.Nat.{ℕ, suc, ◌*◌}
 use mathlib.Core.Path.{◌≡◌, refl, sym, ap, ◌∙◌}
 use mathlib.Core.Bool.{Bool, true, false, not, ◌&&◌, ◌||◌, true≢false}
 use mathlib.Core.List.{List, [], ◌∷◌}
 use lib.Dec.{eqb}
 use lib.ListN.{length, drop}
-use Rattle.choice.specs.Pick.{if◌then◌else◌, all}
-use Rattle.endian.specs.Big.{entries}
+use Rattle.choice.specs.Pick.{all}
 use Rattle.endian.proofs.Entries.{be64-drop}
 use Rattle.qcow2_spec.specs.Header.{version, cluster_size, snapshots, roots, root_size, root_at}
 use Rattle.qcow2_spec.specs.Entries.{place, good_l1, good_l2}

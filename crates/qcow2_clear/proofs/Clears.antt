@@ -1,4 +1,5 @@
 -- The clearing unit, and a list that comes after it. Assumes nothing.
+use Rattle.std.specs.Prelude.{if◌then◌else◌}
 use Prim.Native.Nat.{ℕ, zero, suc, ◌+◌, ◌-◌, ◌≤◌, ◌<◌}
 use native.Mathlib.Omega.{arith}
 use mathlib.Core.Path.{◌≡◌, refl, sym, ◌∙◌}
@@ -8,7 +9,6 @@ use lib.Dec.{leb, eqb}
 use lib.ListN.{length, take}
 use lib.Seq.{take-nil}
 use borrow.Author.Tests.{eq-eqb, ne_eqb, leb-true}
-use Rattle.choice.specs.Pick.{if◌then◌else◌}
 use Rattle.choice.proofs.Tests.{if_elim}
 use Rattle.endian.specs.Big.{be64, bytes64}
 use Rattle.endian.proofs.Laws.{SamePart, splice-after, length-bytes64}

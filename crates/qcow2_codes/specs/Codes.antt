@@ -1,7 +1,6 @@
 -- The answers as numbers for C: 0, a refusal's own number, or a code from 1001 on; and the values beside them.
 -- Assumes nothing.
-use Rattle.std.specs.Prelude.{ℕ, ◌-◌, eqb}
-use Rattle.choice.specs.Pick.{if◌then◌else◌}
+use Rattle.std.specs.Prelude.{ℕ, ◌-◌, eqb, if◌then◌else◌}
 use Rattle.units.specs.declared.Outcome.{Outcome}
 use Rattle.units.specs.declared.Outcome.TheVariants.{Finished, Stopped, Refused as NotDone}
 use Rattle.qcow2_spec.specs.declared.Listed.{Listed}

@@ -1,8 +1,7 @@
 // Each answer as a number for C, with the values beside it.
 #![tactic(auto)]
 
-ghost use Rattle.std.specs.Prelude.{◌≡◌, ◌-◌, eqb};
-ghost use Rattle.choice.specs.Pick.{if◌then◌else◌};
+ghost use Rattle.std.specs.Prelude.{◌≡◌, ◌-◌, eqb, if◌then◌else◌};
 ghost use Rattle.qcow2_codes.specs.Codes.{listed_code, listed_rows, planned_code, planned_rows, outcome_code, outcome_units, verdict_code, verdict_first, verdict_second, verdict_third};
 
 use qcow2_batches::Planned;

@@ -51,15 +51,15 @@ module _ (l : List ℕ) (n own k : ℕ) (h : own < n) where
       (set-one (Z ++ D) own 1 x ∙ splice_front Z D own (1 ∷ []) (omega arith) ∙ ap (λ (y : List ℕ). y ++ D) b)
 
 -- ---- all of them: 1 in the last byte of its first count
-get_d_zeros : (n i : ℕ) → ◌≡◌ {A = ℕ} (get_or (replicate n 0) i 0) 0
-get_d_zeros zero i = refl
-get_d_zeros (suc n) zero = refl
-get_d_zeros (suc n) (suc i) = get_d_zeros n i
+get_or-zeros : (n i : ℕ) → ◌≡◌ {A = ℕ} (get_or (replicate n 0) i 0) 0
+get_or-zeros zero i = refl
+get_or-zeros (suc n) zero = refl
+get_or-zeros (suc n) (suc i) = get_or-zeros n i
 
 be-zeros : (k n at : ℕ) → be k (replicate n 0) at ≡ 0
 unfolding be
 be-zeros zero n at = refl
-be-zeros (suc k) n at = rw (be-zeros k n at, get_d_zeros n (at + k))
+be-zeros (suc k) n at = rw (be-zeros k n at, get_or-zeros n (at + k))
 
 first-bytes : (o : ℕ) → o ≤ 6 → bytes (span (2 ^ o)) (merge (2 ^ o) 0 0 1) ≡ replicate (own_byte o) 0 ++ (1 ∷ [])
 unfolding bytes span merge

@@ -1,4 +1,5 @@
 -- The blocks that are to be made, by what was noted of them. Assumes nothing.
+use Rattle.std.specs.Prelude.{if◌then◌else◌}
 use Prim.Native.Nat.{ℕ, ◌+◌, ◌-◌, ◌*◌, ◌/◌, ◌≤◌, ◌<◌}
 use native.Mathlib.Nat.{mul-le-mul_right, zero-add, div-lt_iff_lt-mul}
 use native.Mathlib.Omega.{arith}
@@ -9,7 +10,7 @@ use mathlib.Core.List.{List, [], ◌∷◌, ◌++◌, append-nil}
 use lib.Dec.{eqb}
 use lib.ListN.{length, take, length-append}
 use borrow.Author.Tests.{lt-leb}
-use Rattle.choice.specs.Pick.{if◌then◌else◌, count}
+use Rattle.choice.specs.Pick.{count}
 use Rattle.choice.proofs.Searches.{count_same, count_most}
 use Rattle.endian.specs.Big.{be64}
 use Rattle.units.specs.Units.{UnitStore}

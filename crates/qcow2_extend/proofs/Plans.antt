@@ -1,4 +1,5 @@
 -- The plan by the places that the code works out. Assumes nothing.
+use Rattle.std.specs.Prelude.{if◌then◌else◌}
 use Prim.Native.Nat.{ℕ, zero, suc, ◌-◌, ◌*◌, ◌^◌, ◌≤◌}
 use native.Mathlib.Nat.{mul_assoc}
 use native.Mathlib.Omega.{arith}
@@ -6,7 +7,7 @@ use mathlib.Core.Path.{◌≡◌, refl, sym, ap, ◌∙◌}
 use mathlib.Core.List.{List, [], ◌∷◌}
 use lib.ListN.{length}
 use lib.Pow.{pow_mono}
-use Rattle.choice.specs.Pick.{if◌then◌else◌, unless}
+use Rattle.choice.specs.Pick.{unless}
 use Rattle.tally.specs.Tally.{run}
 use Rattle.units.specs.Units.{cluster}
 use Rattle.units.specs.Plan.{refused, units, Done}

@@ -1,7 +1,6 @@
 -- The units of new blocks by the places that the code works out, and what storing them is told.
 -- Assumes nothing.
-use Rattle.std.specs.Prelude.{ℕ, zero, suc, ◌+◌, ◌-◌, ◌*◌, ◌/◌, ◌^◌, ◌≤◌, ◌<◌, ◌≡◌, Bool, List, [], ◌∷◌, ◌++◌, eqb, length, get_or}
-use Rattle.choice.specs.Pick.{if◌then◌else◌}
+use Rattle.std.specs.Prelude.{ℕ, zero, suc, ◌+◌, ◌-◌, ◌*◌, ◌/◌, ◌^◌, ◌≤◌, ◌<◌, ◌≡◌, Bool, List, [], ◌∷◌, ◌++◌, eqb, length, get_or, if◌then◌else◌}
 use Rattle.units.specs.Units.{UnitStore, entry, fill, cluster}
 use Rattle.qcow2_spec.specs.Header.{most_bits, most_length, version}
 use Rattle.qcow2_spec.specs.declared.Geometry.{Geometry}

@@ -1,7 +1,6 @@
 -- What a search over an L1 table looks for.
 -- Assumes nothing.
-use Rattle.std.specs.Prelude.{ℕ, ◌*◌, ◌<◌, ◌≡◌, Bool, true, false, List, eqb, length}
-use Rattle.choice.specs.Pick.{if◌then◌else◌}
+use Rattle.std.specs.Prelude.{ℕ, ◌*◌, ◌<◌, ◌≡◌, Bool, true, false, List, eqb, length, if◌then◌else◌}
 use Rattle.qcow2_spec.specs.Header.{per_table}
 use Rattle.qcow2_spec.specs.Entries.{place}
 use Rattle.qcow2_spec.specs.Check.{Seek, bad_in, wrong_marks}

@@ -1,8 +1,7 @@
 // Whether one entry fails: it is bad, or its mark is wrong.
 #![tactic(auto)]
 
-ghost use Rattle.std.specs.Prelude.{◌≡◌, true, not, ◌*◌, ◌/◌, ◌^◌, ◌≤◌, ◌<◌, length};
-ghost use Rattle.choice.specs.Pick.{if◌then◌else◌};
+ghost use Rattle.std.specs.Prelude.{◌≡◌, true, not, ◌*◌, ◌/◌, ◌^◌, ◌≤◌, ◌<◌, length, if◌then◌else◌};
 ghost use Rattle.tally.specs.States.{twos};
 ghost use Rattle.qcow2_spec.specs.Header.{most_bits};
 ghost use Rattle.qcow2_spec.specs.Entries.{good_l1, good_l2};

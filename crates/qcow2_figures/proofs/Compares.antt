@@ -16,7 +16,7 @@ use Rattle.endian.specs.Big.{be16}
 use Rattle.widths.proofs.Cells.{number-part, inside-first}
 use Rattle.packed.specs.Packed.{packed, unlike_at, under_at}
 use Rattle.packed_twos.specs.Twos.{many, figures_in}
-use Rattle.packed_twos.proofs.Laws.{length-twos, get_d_twos}
+use Rattle.packed_twos.proofs.Laws.{length-twos, get_or-twos}
 use Rattle.tally.specs.declared.Counted.{Counted}
 use Rattle.tally.specs.Tally.{counted}
 use Rattle.tally.proofs.Counting.{counting_next, counting_part}
@@ -43,7 +43,7 @@ pub judging_next : (s f : List ℕ) (k x y : ℕ) (c r : Counted) → k < many f
 unfolding short over
 judging_next s f k x y c r h d e g w =
     let l : length (figures_in f) ≡ many f = length-figures f in
-    let v : get_or (figures_in f) k 0 ≡ y = get_d_twos f (many f) k h ∙ sym g in
+    let v : get_or (figures_in f) k 0 ≡ y = get_or-twos f (many f) k h ∙ sym g in
     let u : r ≡ counted (length (figures_in f)) k x y c = w ∙ ap (λ (n : ℕ). counted n k x y c) (sym l) in
     rw u (counting_next (short s (figures_in f)) (over s (figures_in f)) (length (figures_in f)) k x y c (omega arith) d (rw (e, v)) (rw (e, v)))
 

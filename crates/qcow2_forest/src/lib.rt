@@ -4,7 +4,7 @@
 ghost use Rattle.std.specs.Prelude.{◌≡◌, true, false, not, ◌*◌, eqb, length};
 ghost use Rattle.choice.specs.Pick.{first};
 ghost use Rattle.tally.specs.Tally.{wide};
-ghost use Rattle.qcow2_spec.specs.Header.{clusters as clustersOf, snapshots as shots, roots};
+ghost use Rattle.qcow2_spec.specs.Header.{clusters as clusters_of, snapshots as shots, roots};
 ghost use Rattle.qcow2_spec.specs.References.{figures_of};
 ghost use Rattle.qcow2_spec.specs.Check.{shared_at};
 ghost use Rattle.qcow2_spec.specs.Opened.{Active};
@@ -36,7 +36,7 @@ fn count_alone(image: &[u8], scratch: &mut [u8], g: Geometry) -> Spot
 // Without snapshots a cluster is shared where it has two references or more.
 fn count_single(image: &[u8], scratch: &mut [u8], g: Geometry) -> Tallied
     requires { (Active g image.now × (length scratch.old ≡ 2 * g.clusters)) × (shots image.now ≡ 0) }
-    ensures { Front false image.now (roots image.now) result.root result.row result.below × ((result.shared ≡ first (shared_at image.now) 0 (clustersOf image.now)) × (scratch.new ≡ wide (figures_of image.now))) }
+    ensures { Front false image.now (roots image.now) result.root result.row result.below × ((result.shared ≡ first (shared_at image.now) 0 (clusters_of image.now)) × (scratch.new ≡ wide (figures_of image.now))) }
 {
     let f = count_alone(image, scratch, g);
     Tallied {
@@ -59,7 +59,7 @@ fn walk_states(image: &[u8], scratch: &mut [u8], g: Geometry) -> Spot
 
 // The references of each cluster after such a walk, which has them where no cluster is shared.
 fn settle(image: &[u8], scratch: &mut [u8], g: Geometry, shared: usize)
-    requires { (Active g image.now × (length scratch.old ≡ 2 * g.clusters)) × ((shared ≡ first (shared_at image.now) 0 (clustersOf image.now)) × (scratch.old ≡ states_of image.now)) }
+    requires { (Active g image.now × (length scratch.old ≡ 2 * g.clusters)) × ((shared ≡ first (shared_at image.now) 0 (clusters_of image.now)) × (scratch.old ≡ states_of image.now)) }
     ensures { scratch.new ≡ wide (figures_of image.now) }
 {
     if shared < g.clusters {
@@ -72,7 +72,7 @@ fn settle(image: &[u8], scratch: &mut [u8], g: Geometry, shared: usize)
 // With snapshots a cluster may have references from several L1 tables.
 fn count_states(image: &[u8], scratch: &mut [u8], g: Geometry) -> Tallied
     requires { Active g image.now × (length scratch.old ≡ 2 * g.clusters) }
-    ensures { Front true image.now (roots image.now) result.root result.row result.below × ((result.shared ≡ first (shared_at image.now) 0 (clustersOf image.now)) × (scratch.new ≡ wide (figures_of image.now))) }
+    ensures { Front true image.now (roots image.now) result.root result.row result.below × ((result.shared ≡ first (shared_at image.now) 0 (clusters_of image.now)) × (scratch.new ≡ wide (figures_of image.now))) }
 {
     let f = walk_states(image, scratch, g);
     let shared = scans::first_bad(scratch);
@@ -89,7 +89,7 @@ fn count_states(image: &[u8], scratch: &mut [u8], g: Geometry) -> Tallied
 // only those that have bit 63 beside their place.
 pub fn count_all(image: &[u8], scratch: &mut [u8], g: Geometry) -> Tallied
     requires { Active g image.now × (length scratch.old ≡ 2 * g.clusters) }
-    ensures { Front (not (eqb (shots image.now) 0)) image.now (roots image.now) result.root result.row result.below × ((result.shared ≡ first (shared_at image.now) 0 (clustersOf image.now)) × (scratch.new ≡ wide (figures_of image.now))) }
+    ensures { Front (not (eqb (shots image.now) 0)) image.now (roots image.now) result.root result.row result.below × ((result.shared ≡ first (shared_at image.now) 0 (clusters_of image.now)) × (scratch.new ≡ wide (figures_of image.now))) }
 {
     if g.snapshots == 0 {
         return count_single(image, scratch, g);

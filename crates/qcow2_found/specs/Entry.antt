@@ -1,7 +1,6 @@
 -- What an L2 entry gives.
 -- Assumes nothing.
-use Rattle.std.specs.Prelude.{ℕ, not}
-use Rattle.choice.specs.Pick.{if◌then◌else◌}
+use Rattle.std.specs.Prelude.{ℕ, not, if◌then◌else◌}
 use Rattle.qcow2_spec.specs.Entries.{good_l2, compressed}
 use Rattle.qcow2_spec.specs.Guest.{entry_gives}
 use Rattle.qcow2_spec.specs.declared.Found.{Found}

@@ -1,8 +1,8 @@
 // The number of free clusters: counts of 0 in the refcount blocks.
 #![tactic(auto)]
 
-ghost use Rattle.std.specs.Prelude.{◌≡◌, ◌*◌, ◌^◌, ◌≤◌, ◌<◌, eqb, length};
-ghost use Rattle.choice.specs.Pick.{if◌then◌else◌, count};
+ghost use Rattle.std.specs.Prelude.{◌≡◌, ◌*◌, ◌^◌, ◌≤◌, ◌<◌, eqb, length, if◌then◌else◌};
+ghost use Rattle.choice.specs.Pick.{count};
 ghost use Rattle.packed.specs.Packed.{zero_at};
 ghost use Rattle.qcow2_spec.specs.Header.{most_length, most_order, per_block};
 ghost use Rattle.qcow2_spec.specs.Counts.{free, free_at};

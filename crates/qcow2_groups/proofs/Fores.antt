@@ -1,7 +1,6 @@
 -- Laws of how many entries pass at the front of a list.
 -- Assumes nothing.
-use Rattle.std.proofs.Common.{◌≡◌, ℕ, suc, ◌+◌, ◌-◌, ◌*◌, ◌<◌, ◌≤◌, Bool, true, false, List, [], ◌∷◌, length, drop, add-zero, arith}
-use Rattle.choice.specs.Pick.{if◌then◌else◌}
+use Rattle.std.proofs.Common.{◌≡◌, ℕ, suc, ◌+◌, ◌-◌, ◌*◌, ◌<◌, ◌≤◌, Bool, true, false, List, [], ◌∷◌, length, drop, add-zero, arith, if◌then◌else◌}
 use Rattle.endian.specs.Big.{be64, entries}
 use Rattle.endian.proofs.Entries.{entries_turn, entries_none}
 use Rattle.qcow2_groups.specs.Walks.{fore}

@@ -1,9 +1,8 @@
 -- Laws of good L2 entries as whole numbers: a mark or nothing; or, but for bit 63, a place and a mark or nothing.
 -- Assumes nothing.
-use Rattle.std.proofs.Common.{◌≡◌, ℕ, zero, suc, ◌+◌, ◌-◌, ◌*◌, ◌/◌, ◌%◌, ◌^◌, ◌<◌, ◌≤◌, Bool, true, false, eqb, ◌⊎◌, sym, refl, ap, ◌∙◌, inl, inr, add-zero, mul-le-mul_right, mod-eq_of_lt, add-mul, lt_of_mul-lt-mul_right, one-mul, div-add-mod', zero-mul, arith, pow_pos, pow_mono, pow-add, eq-eqb, eqb-true}
+use Rattle.std.proofs.Common.{◌≡◌, ℕ, zero, suc, ◌+◌, ◌-◌, ◌*◌, ◌/◌, ◌%◌, ◌^◌, ◌<◌, ◌≤◌, Bool, true, false, eqb, ◌⊎◌, sym, refl, ap, ◌∙◌, inl, inr, add-zero, mul-le-mul_right, mod-eq_of_lt, add-mul, lt_of_mul-lt-mul_right, one-mul, div-add-mod', zero-mul, arith, pow_pos, pow_mono, pow-add, eq-eqb, eqb-true, if◌then◌else◌}
 use native.Mathlib.Nat.{mul-add-mod_self_right, mul-add-div_right, div-eq_of_lt, mul-mod_left}
 use borrow.Author.Tests.{eqb-false}
-use Rattle.choice.specs.Pick.{if◌then◌else◌}
 use Rattle.qcow2_spec.specs.Header.{most_length}
 use Rattle.qcow2_spec.specs.Entries.{place, good_l2}
 use Rattle.qcow2_spec.specs.Good.{MaybeMarked}

@@ -1,9 +1,8 @@
 -- Laws of L2 entries that pass a walk or not, and of what is visited.
 -- Assumes nothing.
-use Rattle.std.proofs.Common.{◌≡◌, ℕ, ◌+◌, ◌-◌, ◌/◌, ◌%◌, ◌^◌, ◌<◌, ◌≤◌, Bool, true, false, not, ◌&&◌, eqb, leb, ◌⊎◌, List, sym, refl, ◌∙◌, inl, inr, arith, eq-eqb, ne_eqb, eqb-true, le-leb, leb-true}
+use Rattle.std.proofs.Common.{◌≡◌, ℕ, ◌+◌, ◌-◌, ◌/◌, ◌%◌, ◌^◌, ◌<◌, ◌≤◌, Bool, true, false, not, ◌&&◌, eqb, leb, ◌⊎◌, List, sym, refl, ◌∙◌, inl, inr, arith, eq-eqb, ne_eqb, eqb-true, le-leb, leb-true, if◌then◌else◌}
 use mathlib.Core.Bool.{and-false}
 use borrow.Author.Tests.{not-false}
-use Rattle.choice.specs.Pick.{if◌then◌else◌}
 use Rattle.choice.proofs.Tests.{true-not-false, and-true, two_ways}
 use Rattle.tally.specs.States.{visited, visit_all}
 use Rattle.qcow2_spec.specs.Header.{most_length}

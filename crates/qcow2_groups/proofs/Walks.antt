@@ -1,8 +1,8 @@
 -- Laws of tables whose references are visited entry by entry.
 -- Assumes nothing.
-use Rattle.std.proofs.Common.{◌≡◌, ℕ, zero, suc, ◌+◌, ◌-◌, ◌*◌, ◌/◌, ◌<◌, ◌≤◌, Bool, true, false, not, ◌&&◌, eqb, List, [], ◌∷◌, length, take, drop, sym, refl, ◌∙◌, add-zero, zero-add, arith, length-drop, eq-eqb, ne_eqb, eqb-true}
+use Rattle.std.proofs.Common.{◌≡◌, ℕ, zero, suc, ◌+◌, ◌-◌, ◌*◌, ◌/◌, ◌<◌, ◌≤◌, Bool, true, false, not, ◌&&◌, eqb, List, [], ◌∷◌, length, take, drop, sym, refl, ◌∙◌, add-zero, zero-add, arith, length-drop, eq-eqb, ne_eqb, eqb-true, if◌then◌else◌}
 use borrow.Author.Tests.{eqb-false}
-use Rattle.choice.specs.Pick.{if◌then◌else◌, all}
+use Rattle.choice.specs.Pick.{all}
 use Rattle.endian.specs.Big.{be64, entries}
 use Rattle.tally.specs.Tally.{joined}
 use Rattle.tally.specs.States.{visit_all}

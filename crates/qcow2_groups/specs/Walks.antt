@@ -1,7 +1,6 @@
 -- A walk over entries: what is visited, and how many pass at the front.
 -- Assumes nothing.
-use Rattle.std.specs.Prelude.{◌≡◌, ℕ, suc, ◌+◌, ◌-◌, ◌*◌, ◌/◌, ◌^◌, ◌≤◌, Bool, not, ◌&&◌, List, [], ◌∷◌, length, drop, ◌==◌}
-use Rattle.choice.specs.Pick.{if◌then◌else◌}
+use Rattle.std.specs.Prelude.{◌≡◌, ℕ, suc, ◌+◌, ◌-◌, ◌*◌, ◌/◌, ◌^◌, ◌≤◌, Bool, not, ◌&&◌, List, [], ◌∷◌, length, drop, ◌==◌, if◌then◌else◌}
 use Rattle.endian.specs.Big.{entries}
 use Rattle.tally.specs.Tally.{joined}
 use Rattle.tally.specs.States.{visit_all}

@@ -1,8 +1,7 @@
 // Visiting what L2 entries refer to, and groups of 64 of them.
 #![tactic(auto)]
 
-ghost use Rattle.std.specs.Prelude.{◌≡◌, ◌+◌, ◌*◌, ◌/◌, ◌^◌, ◌<◌, ◌≤◌, length, nat_eq};
-ghost use Rattle.choice.specs.Pick.{if◌then◌else◌};
+ghost use Rattle.std.specs.Prelude.{◌≡◌, ◌+◌, ◌*◌, ◌/◌, ◌^◌, ◌<◌, ◌≤◌, length, nat_eq, if◌then◌else◌};
 ghost use Rattle.tally.specs.States.{visit_all};
 ghost use Rattle.qcow2_spec.specs.References.{l2_refs};
 ghost use Rattle.qcow2_groups.specs.Walks.{Room, passes, AllGood};

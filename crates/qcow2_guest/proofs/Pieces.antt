@@ -1,5 +1,6 @@
 -- The disk's bytes inside one guest cluster.
 -- Assumes nothing.
+use Rattle.std.specs.Prelude.{if◌then◌else◌}
 use Prim.Native.Nat.{ℕ, zero, suc, ◌+◌, ◌-◌, ◌*◌, ◌/◌, ◌%◌, ◌^◌, ◌≤◌, ◌<◌, min}
 use native.Mathlib.Nat.{add-zero, div-add-mod', div-eq_of_lt-le, mod-lt}
 use native.Mathlib.Omega.{arith}
@@ -13,7 +14,7 @@ use borrow.Author.Tests.{leb-false}
 use lib.Dec.{eqb, leb}
 use lib.ListN.{length, get_or, take, drop, replicate, length-replicate, get_or-replicate, length-drop}
 use lib.Seq.{get_or-take, get_or-drop, length-take-le, take_all}
-use Rattle.choice.specs.Pick.{if◌then◌else◌, each}
+use Rattle.choice.specs.Pick.{each}
 use Rattle.choice.proofs.Each.{each_list}
 use Rattle.endian.specs.Big.{part, splice}
 use Rattle.endian.proofs.Laws.{splice-whole}

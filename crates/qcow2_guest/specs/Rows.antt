@@ -1,7 +1,6 @@
 -- Guest bytes that have one entry of L1 table r: the L2 table through which their ways lead.
 -- Assumes nothing.
-use Rattle.std.specs.Prelude.{ℕ, ◌+◌, ◌-◌, ◌*◌, ◌/◌, ◌%◌, ◌≤◌, ◌<◌, ◌≡◌, List, length}
-use Rattle.choice.specs.Pick.{if◌then◌else◌}
+use Rattle.std.specs.Prelude.{ℕ, ◌+◌, ◌-◌, ◌*◌, ◌/◌, ◌%◌, ◌≤◌, ◌<◌, ◌≡◌, List, length, if◌then◌else◌}
 use Rattle.endian.specs.Big.{be64}
 use Rattle.qcow2_spec.specs.Header.{version, cluster_size, per_table}
 use Rattle.qcow2_spec.specs.Entries.{place, good_l1}

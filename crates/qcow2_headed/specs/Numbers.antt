@@ -1,7 +1,6 @@
 -- The header's number in pieces, each where no number before it applies.
 -- Assumes nothing.
-use Rattle.std.specs.Prelude.{ℕ, List}
-use Rattle.choice.specs.Pick.{if◌then◌else◌}
+use Rattle.std.specs.Prelude.{ℕ, List, if◌then◌else◌}
 use Rattle.qcow2_spec.specs.Header.{unsupported, too_big, odd_size, bad_tables}
 use Rattle.qcow2_limits.specs.Limits.{odd_length}
 use Rattle.qcow2_fields.specs.Fields.{features}

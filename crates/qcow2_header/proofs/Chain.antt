@@ -1,10 +1,11 @@
 -- The chain of tests is the definition's judgement.
 -- Assumes nothing.
+use Rattle.std.specs.Prelude.{if◌then◌else◌}
 use Prim.Native.Nat.{ℕ, zero, suc}
 use mathlib.Core.Path.{◌≡◌, refl}
 use mathlib.Core.Bool.{Bool, true, false, not}
 use mathlib.Core.List.{List}
-use Rattle.choice.specs.Pick.{if◌then◌else◌, unless}
+use Rattle.choice.specs.Pick.{unless}
 use Rattle.qcow2_spec.specs.Header.{header_number, table_number, backing_number, judge_lent, some_lent, judge}
 use Rattle.qcow2_spec.specs.Opened.{opened}
 use Rattle.qcow2_spec.specs.declared.Judged.TheVariants.{Refused}

@@ -1,11 +1,11 @@
 -- What a discard is found to be. Assumes nothing.
+use Rattle.std.specs.Prelude.{if◌then◌else◌}
 use Prim.Native.Nat.{ℕ, ◌+◌, ◌-◌, ◌/◌, ◌^◌, ◌≤◌}
 use mathlib.Core.Path.{◌≡◌, sym, ◌∙◌}
 use mathlib.Core.Bool.{Bool, true, false, ◌&&◌}
 use mathlib.Core.List.{List, [], ◌∷◌}
 use lib.Dec.{eqb}
 use borrow.Author.Tests.{eq-eqb, ne_eqb}
-use Rattle.choice.specs.Pick.{if◌then◌else◌}
 use Rattle.units.specs.Units.{entry}
 use Rattle.units.specs.Plan.{Plan, refused, units}
 use Rattle.widths.specs.Width.{Inside}

@@ -1,7 +1,6 @@
 -- What a write or a discard is found to be before anything is stored: a refusal or units, with every place and value given.
 -- Assumes nothing.
-use Rattle.std.specs.Prelude.{ℕ, ◌+◌, ◌^◌, ◌≤◌, ◌≡◌, List, [], ◌∷◌, ◌++◌, length}
-use Rattle.choice.specs.Pick.{if◌then◌else◌}
+use Rattle.std.specs.Prelude.{ℕ, ◌+◌, ◌^◌, ◌≤◌, ◌≡◌, List, [], ◌∷◌, ◌++◌, length, if◌then◌else◌}
 use Rattle.endian.specs.Big.{splice}
 use Rattle.widths.specs.Width.{Inside, number}
 use Rattle.units.specs.Units.{UnitStore, count, entry, fill, cluster}

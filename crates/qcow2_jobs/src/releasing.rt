@@ -1,6 +1,5 @@
 // What a discard is to store, once the way is found: the places, the entry and the count, worked out from the image before the first store.
-ghost use Rattle.std.specs.Prelude.{◌≡◌, ◌&&◌, ◌+◌, ◌-◌, ◌≤◌, ◌<◌, [], ◌∷◌, eqb, length};
-ghost use Rattle.choice.specs.Pick.{if◌then◌else◌};
+ghost use Rattle.std.specs.Prelude.{◌≡◌, ◌&&◌, ◌+◌, ◌-◌, ◌≤◌, ◌<◌, [], ◌∷◌, eqb, length, if◌then◌else◌};
 ghost use Rattle.units.specs.Units.{entry};
 ghost use Rattle.units.specs.Plan.{refused, units as planned};
 ghost use Rattle.qcow2_spec.specs.Counts.{count_of, set_count};

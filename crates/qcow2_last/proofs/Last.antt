@@ -1,5 +1,6 @@
 -- The last portion's verdict by what the code has found.
 -- Assumes nothing.
+use Rattle.std.specs.Prelude.{if◌then◌else◌}
 use Prim.Native.Nat.{ℕ, ◌*◌, ◌≤◌}
 use mathlib.Core.Path.{◌≡◌, refl, sym, ap, ◌∙◌}
 use mathlib.Core.Bool.{true, false}
@@ -7,7 +8,7 @@ use mathlib.Core.List.{List}
 use lib.Dec.{ltb}
 use lib.ListN.{length, drop}
 use borrow.Author.Tests.{le-ltb}
-use Rattle.choice.specs.Pick.{if◌then◌else◌, all, first, count}
+use Rattle.choice.specs.Pick.{all, first, count}
 use Rattle.endian.proofs.Entries.{be64-drop}
 use Rattle.qcow2_spec.specs.Header.{clusters, root_size, root_at}
 use Rattle.qcow2_spec.specs.References.{l1_entries}

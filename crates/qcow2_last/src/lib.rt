@@ -4,7 +4,7 @@
 ghost use Rattle.std.specs.Prelude.{◌≡◌, ◌*◌, ◌≤◌, length};
 ghost use Rattle.choice.specs.Pick.{first};
 ghost use Rattle.packed_twos.specs.Twos.{figures_in};
-ghost use Rattle.qcow2_spec.specs.Header.{clusters as clustersOf};
+ghost use Rattle.qcow2_spec.specs.Header.{clusters as clusters_of};
 ghost use Rattle.qcow2_spec.specs.Check.{or_else, shared_at};
 ghost use Rattle.qcow2_spec.specs.Opened.{Active};
 ghost use Rattle.qcow2_portions.specs.Last.{last_verdict};
@@ -13,7 +13,7 @@ use qcow2_spec::{Geometry, Verdict};
 
 // Counts and marks of an image in which nothing is shared and entries may be bad, which were not met: it has changed meanwhile.
 fn judge_changed(image: &[u8], scratch: &[u8], g: Geometry) -> Verdict
-    requires { (Active g image.now × (length scratch.now ≡ 2 * g.clusters)) × (clustersOf image.now ≤ first (shared_at image.now) 0 (clustersOf image.now)) }
+    requires { (Active g image.now × (length scratch.now ≡ 2 * g.clusters)) × (clusters_of image.now ≤ first (shared_at image.now) 0 (clusters_of image.now)) }
     ensures { result ≡ last_verdict image.now (figures_in scratch.now) }
 {
     let n = g.clusters;

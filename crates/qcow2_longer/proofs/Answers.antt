@@ -1,5 +1,6 @@
 -- What an image of the series is answered: extending is accepted on it, and every other call is refused with 10 while a block is left to make and
 -- judges it as the earlier bytes once none is. Assumes nothing.
+use Rattle.std.specs.Prelude.{if◌then◌else◌}
 use Prim.Native.Nat.{ℕ, zero, suc, ◌+◌, ◌-◌, ◌*◌, ◌/◌, ◌%◌, ◌≤◌, ◌<◌}
 use native.Mathlib.Nat.{mul-mod_left, le_refl, zero-add}
 use native.Mathlib.Decide.{dec_lt}
@@ -11,7 +12,7 @@ use mathlib.Core.List.{List}
 use lib.Dec.{ltb, eqb}
 use lib.ListN.{length, get_or, take, drop}
 use borrow.Author.Tests.{eq-eqb, ne_eqb, le-leb, le-ltb, eqb-false}
-use Rattle.choice.specs.Pick.{if◌then◌else◌, unless, all, first, ceil_div}
+use Rattle.choice.specs.Pick.{unless, all, first, ceil_div}
 use Rattle.choice.proofs.Tests.{true-not-false, if_no, and-true, false-or, two_ways}
 use Rattle.choice.proofs.Found.{first-false}
 use Rattle.endian.specs.Big.{be64, entries}

@@ -1,4 +1,5 @@
 -- An image of the series on which no block is left to make is sound or leaking, and is read as the earlier bytes are. Assumes nothing.
+use Rattle.std.specs.Prelude.{if◌then◌else◌}
 use Prim.Native.Nat.{ℕ, zero, suc, ◌+◌, ◌*◌, ◌/◌, ◌%◌, ◌^◌, ◌≤◌, ◌<◌}
 use native.Mathlib.Nat.{mul-div_cancel, mul-mod_left, mod-lt, le_refl, le_trans, mod-eq_of_lt, one-le-pow, zero-lt-suc, mul-zero, pow-suc}
 use native.Mathlib.Decide.{dec_lt}
@@ -10,7 +11,7 @@ use mathlib.Core.List.{List}
 use lib.Dec.{leb, ltb, eqb}
 use lib.ListN.{length, get_or, take, replicate, length-replicate}
 use borrow.Author.Tests.{le-leb, leb-true, le-ltb, ltb-true}
-use Rattle.choice.specs.Pick.{if◌then◌else◌, ceil_div}
+use Rattle.choice.specs.Pick.{ceil_div}
 use Rattle.choice.proofs.Tests.{if_no, and-true, or-true, two_ways}
 use Rattle.endian.specs.Big.{be64}
 use Rattle.endian.proofs.Laws.{SamePart}

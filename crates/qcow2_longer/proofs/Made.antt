@@ -1,4 +1,5 @@
 -- What the stores of extending keep: bytes of a new block whose entry is 0, the entry of a filled one, and the autoclear field. Assumes nothing.
+use Rattle.std.specs.Prelude.{if◌then◌else◌}
 use Prim.Native.Nat.{ℕ, ◌+◌, ◌/◌, ◌^◌, ◌≤◌, ◌<◌}
 use native.Mathlib.Decide.{ℕ_discrete, dec_lt}
 use native.Mathlib.Omega.{arith}
@@ -9,12 +10,11 @@ use mathlib.Core.List.{List, []}
 use lib.Dec.{eqb}
 use lib.ListN.{length, get_or, replicate, length-replicate}
 use borrow.Author.Tests.{eq-eqb, eqb-true}
-use Rattle.choice.specs.Pick.{if◌then◌else◌}
 use Rattle.choice.proofs.Tests.{if_yes, if_elim, two_ways}
 use Rattle.endian.specs.Big.{be64, bytes64}
 use Rattle.endian.proofs.Laws.{sets_splice, be64-same, be64-stored, length-bytes64}
 use Rattle.widths.specs.Width.{stored}
-use Rattle.widths.proofs.Cells.{recell, stored_recell, small_recell, small_bytes, length-stored, get_d_sets_in}
+use Rattle.widths.proofs.Cells.{recell, stored_recell, small_recell, small_bytes, length-stored, get_or-sets_in}
 use Rattle.widths.proofs.Whole.{bytes8}
 use Rattle.cuts.proofs.Call.{small_sets}
 use Rattle.cuts.proofs.Write.{small-replicate}
@@ -130,7 +130,7 @@ module _ {s : List ℕ} {old : ℕ} (r : Room s old) where
   pub fill-filled : (t : List ℕ) (i : ℕ) → New s old i → length t ≡ length s → Filled s (apply_all (fill (new_place s i) (new_block s)) t) i
   fill-filled t i n e x l =
       rw (fill_sets (new_block s) (new_place s i) t)
-      (get_d_sets_in (new_block s) t (new_place s i) 0 x (omega (arith, length-new_block s, r.place_in i n)) (omega (arith, length-new_block s)))
+      (get_or-sets_in (new_block s) t (new_place s i) 0 x (omega (arith, length-new_block s, r.place_in i n)) (omega (arith, length-new_block s)))
 
   -- ---- the entry of a new block
   module _ {t : List ℕ} (b : Between s old t) (i : ℕ) (n : New s old i) where

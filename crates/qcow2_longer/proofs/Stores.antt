@@ -9,7 +9,7 @@ use lib.ListN.{length, get_or, set, length-set}
 use lib.Seq.{sets, length-sets, get_or-set_other}
 use Rattle.endian.specs.Big.{be64}
 use Rattle.endian.proofs.Laws.{be64-same}
-use Rattle.widths.proofs.Cells.{get_d_sets_out}
+use Rattle.widths.proofs.Cells.{get_or-sets_out}
 use Rattle.cuts.proofs.Call.{small-set, small_sets}
 use Rattle.units.specs.Units.{UnitStore, byte, entry, apply, apply_all, fill}
 use Rattle.qcow2_spec.specs.Rough.{chosen, roughly}
@@ -26,7 +26,7 @@ only_same at n t b = record { len = refl; small = b; off = λ x h. refl }
 
 pub only_sets : (at n : ℕ) (t bs : List ℕ) → length bs ≡ n → Bytes t → Bytes bs → Only at n t (sets t at bs)
 only_sets at n t bs e b c =
-    record { len = length-sets t at bs; small = small_sets bs t at b c; off = λ x h. get_d_sets_out bs t at 0 x (rw e h) }
+    record { len = length-sets t at bs; small = small_sets bs t at b c; off = λ x h. get_or-sets_out bs t at 0 x (rw e h) }
 
 -- a number that stands elsewhere
 pub only_be64 : {at n : ℕ} {t u : List ℕ} → Only at n t u → (p : ℕ) → (p + 8 ≤ at) ⊎ (at + n ≤ p) → be64 u p ≡ be64 t p

@@ -1,8 +1,8 @@
 -- Taking in clusters that were appended to an image: the numbers and the list of units. Paper 02, T-13. old: the bytes that the image had before.
 -- All places and values are worked out from the image s as it was on entry.
 -- Assumes nothing.
-use Rattle.std.specs.Prelude.{ℕ, ◌+◌, ◌-◌, ◌*◌, ◌/◌, ◌%◌, Bool, true, not, ◌&&◌, ◌||◌, List, [], ◌∷◌, ◌++◌, ltb, eqb, length, take, drop, replicate}
-use Rattle.choice.specs.Pick.{if◌then◌else◌, unless, all, ceil_div}
+use Rattle.std.specs.Prelude.{ℕ, ◌+◌, ◌-◌, ◌*◌, ◌/◌, ◌%◌, Bool, true, not, ◌&&◌, ◌||◌, List, [], ◌∷◌, ◌++◌, ltb, eqb, length, take, drop, replicate, if◌then◌else◌}
+use Rattle.choice.specs.Pick.{unless, all, ceil_div}
 use Rattle.widths.specs.Width.{stored}
 use Rattle.tally.specs.Tally.{run}
 use Rattle.units.specs.Units.{UnitStore, entry, fill}

@@ -1,5 +1,6 @@
 -- Laws of good entries: where the cluster of their place is found, and whether their marks are right.
 -- Assumes nothing.
+use Rattle.std.specs.Prelude.{if◌then◌else◌}
 use Prim.Native.Nat.{ℕ, zero, suc, ◌+◌, ◌*◌, ◌/◌, ◌%◌, ◌^◌, ◌≤◌, ◌<◌}
 use mathlib.Core.Path.{◌≡◌, refl, ap, ◌∙◌}
 use mathlib.Core.Logic.{◌⊎◌, inl, inr}
@@ -10,7 +11,6 @@ use native.Mathlib.Omega.{arith}
 use borrow.Author.Tests.{eq-eqb, ne_eqb, eqb-true, eqb-false}
 use lib.Dec.{eqb, leb}
 use lib.Pow.{pow_pos, pow_mono, high}
-use Rattle.choice.specs.Pick.{if◌then◌else◌}
 use Rattle.choice.proofs.Tests.{true-not-false, and-true, or-true}
 use Rattle.endian.specs.Big.{be16}
 use Rattle.qcow2_spec.specs.Entries.{place, alone, good_place, good_l1, good_l2, compressed, zero_mark}

@@ -26,17 +26,17 @@ use Rattle.qcow2_spec.proofs.Places.{place_inside, l1_place}
 use Rattle.qcow2_marks.specs.Marks.{right, Fair, AllFair, Rights, unharmed}
 use Rattle.qcow2_marks.proofs.Fairs.{right_zero, l1_fair, l2_fair}
 
-get_d_each : (f : ℕ → ℕ) (x m k : ℕ) → k < m → get_or (each f x m) k 0 ≡ f (x + k)
-get_d_each f x zero k h = absurd (omega arith)
-get_d_each f x (suc m) zero h = ap f (sym (add-zero x))
-get_d_each f x (suc m) (suc k) h = get_d_each f (suc x) m k (omega arith) ∙ ap f (omega arith)
+get_or-each : (f : ℕ → ℕ) (x m k : ℕ) → k < m → get_or (each f x m) k 0 ≡ f (x + k)
+get_or-each f x zero k h = absurd (omega arith)
+get_or-each f x (suc m) zero h = ap f (sym (add-zero x))
+get_or-each f x (suc m) (suc k) h = get_or-each f (suc x) m k (omega arith) ∙ ap f (omega arith)
 
 -- the mark of a fair entry is right by the scratch exactly where it is by its figures
 pub right_is : (s scratch : List ℕ) (C m e : ℕ) → C ≡ cluster_size s → Fair C m e → right_mark s (twos scratch 0 m) e ≡ right C scratch e
 unfolding right right_mark
 right_is s scratch C m e h f =
     let p : ℕ = place e / C in
-    let g : get_or (twos scratch 0 m) p 0 ≡ be16 scratch (2 * p) = get_d_each (λ j. be16 scratch (2 * j)) 0 m p f.inside ∙ ap (λ (j : ℕ). be16 scratch (2 * j)) (zero-add p) in
+    let g : get_or (twos scratch 0 m) p 0 ≡ be16 scratch (2 * p) = get_or-each (λ j. be16 scratch (2 * j)) 0 m p f.inside ∙ ap (λ (j : ℕ). be16 scratch (2 * j)) (zero-add p) in
     rw (← h, g)
 
 -- entries one by one

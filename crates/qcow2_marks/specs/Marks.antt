@@ -1,7 +1,7 @@
 -- Bit 63 of entries against the figures of a scratch of two bytes for each cluster.
 -- Assumes nothing.
-use Rattle.std.specs.Prelude.{ℕ, ◌*◌, ◌/◌, ◌%◌, ◌^◌, ◌≤◌, ◌<◌, ◌≡◌, Bool, true, not, ◌&&◌, ◌||◌, List, eqb, length}
-use Rattle.choice.specs.Pick.{if◌then◌else◌, all}
+use Rattle.std.specs.Prelude.{ℕ, ◌*◌, ◌/◌, ◌%◌, ◌^◌, ◌≤◌, ◌<◌, ◌≡◌, Bool, true, not, ◌&&◌, ◌||◌, List, eqb, length, if◌then◌else◌}
+use Rattle.choice.specs.Pick.{all}
 use Rattle.endian.specs.Big.{be16, be64}
 use Rattle.qcow2_spec.specs.Entries.{place, alone}
 use Rattle.qcow2_spec.specs.References.{l2_entries}

@@ -1,8 +1,8 @@
 // Marks: bit 63 of the entries of good tables against the figures of a scratch of two bytes for each cluster.
 #![tactic(auto)]
 
-ghost use Rattle.std.specs.Prelude.{◌≡◌, true, ◌+◌, ◌*◌, ◌/◌, ◌^◌, ◌≤◌, ◌<◌, eqb, length};
-ghost use Rattle.choice.specs.Pick.{if◌then◌else◌, all};
+ghost use Rattle.std.specs.Prelude.{◌≡◌, true, ◌+◌, ◌*◌, ◌/◌, ◌^◌, ◌≤◌, ◌<◌, eqb, length, if◌then◌else◌};
+ghost use Rattle.choice.specs.Pick.{all};
 ghost use Rattle.tally.specs.States.{twos};
 ghost use Rattle.qcow2_spec.specs.Header.{most_bits};
 ghost use Rattle.qcow2_spec.specs.References.{l2_entries};

@@ -1,4 +1,5 @@
 -- Counts that are counted and set a whole run at a time. Assumes nothing.
+use Rattle.std.specs.Prelude.{if◌then◌else◌}
 use Prim.Native.Nat.{ℕ, zero, suc, ◌+◌, ◌-◌, ◌*◌, ◌/◌, ◌%◌, ◌^◌, ◌≤◌, ◌<◌}
 use native.Mathlib.Nat.{add-zero, mod-eq_of_lt}
 use native.Mathlib.Numerals.{add-one}
@@ -10,7 +11,7 @@ use lib.Dec.{eqb}
 use lib.ListN.{length, take, drop, get_or, length-append, take-append-drop}
 use lib.Seq.{drop-cons, take_all, take-nil, take-suc, length-take-le}
 use borrow.Author.Tests.{eqb-true}
-use Rattle.choice.specs.Pick.{if◌then◌else◌, count as countThat}
+use Rattle.choice.specs.Pick.{count as countThat}
 use Rattle.endian.specs.Big.{be16, splice, bytes16}
 use Rattle.endian.proofs.Laws.{SamePart, sets_splice, length-bytes16, length-splice, splice-none, splice-next, splice-after}
 use Rattle.widths.specs.Width.{span, number, stored}
@@ -19,7 +20,7 @@ use Rattle.widths.proofs.Cells.{number-16, number-part, inside-first}
 use Rattle.packed.specs.Packed.{packed, unlike_at}
 use Rattle.packed.proofs.Laws.{count_next}
 use Rattle.packed_twos.specs.Twos.{many, figures_in}
-use Rattle.packed_twos.proofs.Laws.{get_d_twos}
+use Rattle.packed_twos.proofs.Laws.{get_or-twos}
 use Rattle.units.specs.Units.{UnitStore, count, apply_all}
 use Rattle.units.proofs.Laws.{count-some, apply_all_append}
 use Rattle.qcow2_counts.specs.Blocks.{Row}
@@ -97,7 +98,7 @@ module _ (s refs : List ℕ) (small : (x : ℕ) → get_or s x 0 < 256) (bytes :
       let n : length t ≡ length s = length-splice s at x (omega arith) in
       let w : SamePart t (at + 2 * j) s (at + 2 * j) 2 = splice-after s at x (at + 2 * j) 2 (omega arith) (omega arith) in
       let b : length (bytes16 v) ≡ 2 = length-bytes16 v in
-      let f : get_or (figures_in refs) j 0 ≡ v = get_d_twos refs (many refs) j (omega arith) in
+      let f : get_or (figures_in refs) j 0 ≡ v = get_or-twos refs (many refs) j (omega arith) in
       let u = fix-set s small (at + 2 * j) v t (omega arith) w in
       rw (two-more j (omega arith), apply_all_append, ← set_all j (omega arith) (omega arith), place-16 at j, f)
       (sym (splice-next s at (at + 2 * j) x (bytes16 v) q (omega arith)) ∙ u)

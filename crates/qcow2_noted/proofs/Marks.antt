@@ -1,4 +1,5 @@
 -- Marks and their number, one entry after another. Assumes nothing.
+use Rattle.std.specs.Prelude.{if◌then◌else◌}
 use Prim.Native.Nat.{ℕ, ◌+◌, ◌≤◌, ◌<◌}
 use native.Mathlib.Nat.{sub-zero, zero-add}
 use native.Mathlib.Decide.{ℕ_discrete}
@@ -9,7 +10,7 @@ use mathlib.Core.List.{List}
 use lib.Dec.{eqb}
 use lib.ListN.{length, get_or, set}
 use lib.Seq.{get_or-set_same, get_or-set_other}
-use Rattle.choice.specs.Pick.{if◌then◌else◌, count}
+use Rattle.choice.specs.Pick.{count}
 use Rattle.choice.proofs.Tests.{if_elim}
 use Rattle.choice.proofs.Searches.{count_turn, count_turns, count_none}
 use Rattle.qcow2_noted.specs.Noting.{mark_of}

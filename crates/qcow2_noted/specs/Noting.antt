@@ -1,7 +1,7 @@
 -- Entries of a table that are still 0, and their marks.
 -- Assumes nothing.
-use Rattle.std.specs.Prelude.{ℕ, ◌+◌, ◌*◌, ◌≤◌, ◌<◌, ◌≡◌, ◌⊎◌, Bool, List, eqb, get_or}
-use Rattle.choice.specs.Pick.{if◌then◌else◌, count}
+use Rattle.std.specs.Prelude.{ℕ, ◌+◌, ◌*◌, ◌≤◌, ◌<◌, ◌≡◌, ◌⊎◌, Bool, List, eqb, get_or, if◌then◌else◌}
+use Rattle.choice.specs.Pick.{count}
 use Rattle.endian.specs.Big.{be64}
 use Rattle.qcow2_noted.specs.declared.Notes.{Notes}
 

@@ -76,8 +76,8 @@ alike_none a ready x = go (leb a x) refl (ltb x (a + 0)) refl
 
 pub phases_fill : {s : List ℕ} {ready : List Extent} {us b c d : List UnitStore} (a : ℕ) (bs : List ℕ) (n : ℕ) → length bs ≡ n → Phases s (whole a n ∷ ready) us b c d → Phases s ready (fill a bs ++ us) (fill a bs ++ b) c d
 unfolding fill
-phases_fill {s} {ready} a [] n e f = phases_alike (λ x. sym (alike_none a ready x)) (rw (← e) at f)
-phases_fill {s} {ready} a (v ∷ bs) n e f = phases_byte a v (phases_fill (suc a) bs (length bs) refl (phases_alike (λ x. sym (alike_next a v (length bs) ready x)) (rw (← e) at f)))
+phases_fill {ready = ready} a [] n e f = phases_alike (λ x. sym (alike_none a ready x)) (rw (← e) at f)
+phases_fill {ready = ready} a (v ∷ bs) n e f = phases_byte a v (phases_fill {ready = join (byte a v) ready} (suc a) bs (length bs) refl (phases_alike (λ x. sym (alike_next a v (length bs) ready x)) (rw (← e) at f)))
 
 -- ---- the rows of a list after the clearing unit
 pub rows_phases : {s : List ℕ} {ready : List Extent} {us b c d : List UnitStore} → Phases s ready us b c d

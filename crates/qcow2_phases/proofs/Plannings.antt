@@ -1,4 +1,5 @@
 -- What planning a call answers and leaves, by the plan. Assumes nothing.
+use Rattle.std.specs.Prelude.{if◌then◌else◌}
 use Prim.Native.Nat.{ℕ, ◌+◌, ◌*◌, ◌/◌, ◌≤◌}
 use native.Mathlib.Omega.{arith}
 use mathlib.Core.Path.{◌≡◌, refl, sym, ap, ◌∙◌}
@@ -8,7 +9,6 @@ use lib.Dec.{ltb}
 use lib.ListN.{length, take, drop, length-append, length-take, length-drop}
 use lib.Seq.{length-take-le, take-nil, drop-nil, take_at, drop_at}
 use borrow.Author.Tests.{ltb-false}
-use Rattle.choice.specs.Pick.{if◌then◌else◌}
 use Rattle.endian.proofs.Laws.{length-splice}
 use Rattle.units.specs.Units.{UnitStore}
 use Rattle.units.specs.Plan.{Plan, refused, units}

@@ -1,4 +1,5 @@
 -- The loops over rows, one row a turn. Assumes nothing.
+use Rattle.std.specs.Prelude.{if◌then◌else◌}
 use Prim.Native.Nat.{ℕ, suc, ◌+◌, ◌-◌, ◌*◌, ◌≤◌, ◌<◌}
 use native.Mathlib.Nat.{add-zero}
 use native.Mathlib.Omega.{arith}
@@ -9,7 +10,6 @@ use lib.Dec.{eqb}
 use lib.ListN.{length, get_or, drop, length-drop}
 use lib.Seq.{get_or-drop, drop-drop}
 use borrow.Author.Tests.{le-leb, eq-eqb, ne_eqb}
-use Rattle.choice.specs.Pick.{if◌then◌else◌}
 use Rattle.qcow2_spec.specs.Steps.{Extent, whole}
 use Rattle.qcow2_batches.specs.Batch.{meets, clash}
 use Rattle.qcow2_batches.specs.Rows.{rows_in}

@@ -1,7 +1,6 @@
 -- Whether rows that are held and those of one more call have a byte in phase 1 and in phase 3.
 -- Assumes nothing.
-use Rattle.std.specs.Prelude.{ℕ, ◌+◌, ◌*◌, ◌/◌, ◌≡◌, Bool, ◌||◌, List, ltb, length, take, drop}
-use Rattle.choice.specs.Pick.{if◌then◌else◌}
+use Rattle.std.specs.Prelude.{ℕ, ◌+◌, ◌*◌, ◌/◌, ◌≡◌, Bool, ◌||◌, List, ltb, length, take, drop, if◌then◌else◌}
 use Rattle.units.specs.Units.{UnitStore}
 use Rattle.qcow2_spec.specs.Steps.{Extent}
 use Rattle.qcow2_batches.specs.Batch.{clash}

@@ -1,4 +1,5 @@
 -- A check cut into portions answers as the check done at once, for any cutting. Assumes nothing.
+use Rattle.std.specs.Prelude.{if◌then◌else◌}
 use Prim.Native.Nat.{ℕ, zero, suc, ◌+◌, ◌-◌, ◌*◌, ◌≤◌, ◌<◌}
 use native.Mathlib.Nat.{sub-zero}
 use native.Mathlib.Omega.{arith}
@@ -9,7 +10,7 @@ use mathlib.Core.List.{List, [], ◌∷◌, ◌++◌}
 use lib.Dec.{leb, ltb, eqb}
 use lib.ListN.{length, take, drop, length-append}
 use borrow.Author.Tests.{ne_eqb, ltb-true, ltb-false, lt-ltb, le-ltb, leb-true}
-use Rattle.choice.specs.Pick.{if◌then◌else◌, all}
+use Rattle.choice.specs.Pick.{all}
 use Rattle.choice.proofs.Tests.{two_ways, and-true}
 use Rattle.tally.specs.Tally.{wide}
 use Rattle.tally.proofs.Laws.{length-figures}

@@ -1,4 +1,5 @@
 -- One portion by itself: what it leaves alone, and how many entries it takes. Assumes nothing.
+use Rattle.std.specs.Prelude.{if◌then◌else◌}
 use Prim.Native.Nat.{ℕ, zero, suc, ◌*◌, ◌≤◌, ◌<◌}
 use native.Mathlib.Omega.{arith}
 use mathlib.Core.Path.{◌≡◌, refl, sym, ap}
@@ -9,7 +10,6 @@ use lib.Dec.{ltb}
 use lib.ListN.{length, take, drop, length-drop}
 use lib.Seq.{drop-nil}
 use borrow.Author.Tests.{ne_eqb, ltb-true, ltb-false}
-use Rattle.choice.specs.Pick.{if◌then◌else◌}
 use Rattle.choice.proofs.Tests.{two_ways}
 use Rattle.qcow2_spec.specs.Header.{clusters, judge}
 use Rattle.qcow2_spec.specs.Check.{check, checked}

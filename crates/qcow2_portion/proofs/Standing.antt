@@ -1,5 +1,6 @@
 -- Where a check in portions stands that began anew on an image: what was taken and what is ahead are all entries, and what is held is what the
 -- entries taken give. Assumes nothing.
+use Rattle.std.specs.Prelude.{if◌then◌else◌}
 use Prim.Native.Nat.{ℕ, zero, suc, ◌+◌, ◌-◌, ◌*◌, ◌≤◌, ◌<◌}
 use native.Mathlib.Nat.{sub-zero}
 use native.Mathlib.Omega.{arith}
@@ -11,7 +12,6 @@ use lib.Dec.{ltb}
 use lib.ListN.{length, take, drop, replicate, length-append, length-take, length-drop, length-replicate, take-append-drop}
 use lib.Seq.{take_all, take_at, drop_at}
 use borrow.Author.Tests.{ne_eqb, ltb-true, ltb-false}
-use Rattle.choice.specs.Pick.{if◌then◌else◌}
 use Rattle.choice.proofs.Tests.{two_ways}
 use Rattle.tally.specs.Tally.{wide, bump_all_wide}
 use Rattle.tally.specs.States.{twos}

@@ -1,7 +1,7 @@
 -- One portion of a check: the next state, the answer and the scratch, for every state. Paper 02, T-12.
 -- Assumes nothing.
-use Rattle.std.specs.Prelude.{ℕ, ◌*◌, List, ◌++◌, ltb, eqb, length, take, drop}
-use Rattle.choice.specs.Pick.{if◌then◌else◌, unless}
+use Rattle.std.specs.Prelude.{ℕ, ◌*◌, List, ◌++◌, ltb, eqb, length, take, drop, if◌then◌else◌}
+use Rattle.choice.specs.Pick.{unless}
 use Rattle.tally.specs.States.{twos}
 use Rattle.qcow2_spec.specs.Header.{clusters, judge}
 use Rattle.qcow2_spec.specs.Check.{or_else}

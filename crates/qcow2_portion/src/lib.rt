@@ -1,8 +1,7 @@
 // A check in portions: its state goes in by value and comes out as the next one.
 #![tactic(auto)]
 
-ghost use Rattle.std.specs.Prelude.{◌≡◌, ◌*◌, ◌≤◌, length};
-ghost use Rattle.choice.specs.Pick.{if◌then◌else◌};
+ghost use Rattle.std.specs.Prelude.{◌≡◌, ◌*◌, ◌≤◌, length, if◌then◌else◌};
 ghost use Rattle.qcow2_spec.specs.Opened.{Active};
 ghost use Rattle.qcow2_portions.specs.Rows.{started};
 ghost use Rattle.qcow2_portion.specs.declared.CheckState.TheVariants.{New};

@@ -1,12 +1,13 @@
 -- Laws of what the last portion judges: where all entries are good it is the check's, and a search for wrong marks may be made with `Sound` first.
 -- Assumes nothing.
+use Rattle.std.specs.Prelude.{if◌then◌else◌}
 use Prim.Native.Nat.{ℕ, suc}
 use mathlib.Core.Path.{◌≡◌, refl}
 use mathlib.Core.Bool.{Bool, true, false, not, ◌||◌}
 use mathlib.Core.List.{List, [], ◌∷◌}
 use lib.Dec.{eqb, ltb}
 use lib.ListN.{length}
-use Rattle.choice.specs.Pick.{if◌then◌else◌, all, count as countThat}
+use Rattle.choice.specs.Pick.{all, count as countThat}
 use Rattle.choice.proofs.Tests.{and-true}
 use Rattle.qcow2_spec.specs.Header.{version, cluster_size, clusters}
 use Rattle.qcow2_spec.specs.Entries.{place, good_l1, good_l2}

@@ -1,14 +1,14 @@
 -- A mark that the last portion names is that of a good entry, and wrong by the figures.
 -- Assumes nothing.
+use Rattle.std.specs.Prelude.{if◌then◌else◌}
 use Prim.Native.Nat.{ℕ, suc, ◌+◌}
 use native.Mathlib.Nat.{add-zero, zero-add, add-suc, suc-add}
-use native.Mathlib.Omega.{arith}
-use mathlib.Core.Path.{◌≡◌, refl, sym, ap, ◌∙◌, subst}
+use mathlib.Core.Path.{◌≡◌, refl, sym, ◌∙◌, subst}
 use mathlib.Core.Bool.{Bool, true, false, not, ◌||◌}
 use mathlib.Core.List.{List, [], ◌∷◌}
 use lib.Dec.{ltb, eqb}
 use lib.ListN.{length, get_or}
-use Rattle.choice.specs.Pick.{if◌then◌else◌, first, count as countThat}
+use Rattle.choice.specs.Pick.{first, count as countThat}
 use Rattle.qcow2_spec.specs.Header.{version, cluster_size, clusters}
 use Rattle.qcow2_spec.specs.Entries.{place, good_l1, good_l2}
 use Rattle.qcow2_spec.specs.References.{l1_entries, l2_entries}

@@ -1,8 +1,8 @@
 -- What the last portion judges where no bad entry was met: sharing by its own bytes, counts and marks by these and the figures of the scratch.
 -- Paper 02, T-12. With the references of its own bytes as figures, and where all entries are good, this is the check's `counts_verdict`.
 -- Assumes nothing.
-use Rattle.std.specs.Prelude.{ℕ, not, ◌||◌, List, [], ◌∷◌, ltb, length}
-use Rattle.choice.specs.Pick.{if◌then◌else◌, first, count as countThat}
+use Rattle.std.specs.Prelude.{ℕ, not, ◌||◌, List, [], ◌∷◌, ltb, length, if◌then◌else◌}
+use Rattle.choice.specs.Pick.{first, count as countThat}
 use Rattle.qcow2_spec.specs.Header.{version, cluster_size, clusters}
 use Rattle.qcow2_spec.specs.Entries.{good_l1, good_l2}
 use Rattle.qcow2_spec.specs.References.{l1_entries}

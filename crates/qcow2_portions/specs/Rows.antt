@@ -1,7 +1,6 @@
 -- The L1 entries of all tables in the order in which a check takes them, and what taking them does. Paper 02, T-12.
 -- Assumes nothing.
-use Rattle.std.specs.Prelude.{ℕ, zero, suc, ◌-◌, ◌*◌, List, [], ◌∷◌, ◌++◌, ltb, drop, replicate}
-use Rattle.choice.specs.Pick.{if◌then◌else◌}
+use Rattle.std.specs.Prelude.{ℕ, zero, suc, ◌-◌, ◌*◌, List, [], ◌∷◌, ◌++◌, ltb, drop, replicate, if◌then◌else◌}
 use Rattle.tally.specs.Tally.{bump_all_wide}
 use Rattle.qcow2_spec.specs.Header.{clusters, roots}
 use Rattle.qcow2_spec.specs.References.{l1_entries, l1_refs, fixed_refs}

@@ -1,5 +1,6 @@
 -- Laws of the number of entries that pass at the front of a table.
 -- Assumes nothing.
+use Rattle.std.specs.Prelude.{if◌then◌else◌}
 use Prim.Native.Nat.{ℕ, zero, suc, ◌+◌, ◌*◌, ◌≤◌, ◌<◌}
 use mathlib.Core.Path.{◌≡◌, refl, ap}
 use mathlib.Core.Bool.{Bool, true, false, not, ◌&&◌, ◌||◌, true≢false}
@@ -8,7 +9,7 @@ use native.Mathlib.Omega.{arith}
 use borrow.Author.Tests.{eq-eqb, ne_eqb, eqb-true, eqb-false}
 use lib.Dec.{eqb}
 use lib.ListN.{length, drop}
-use Rattle.choice.specs.Pick.{if◌then◌else◌, all}
+use Rattle.choice.specs.Pick.{all}
 use Rattle.endian.specs.Big.{be64, entries, part}
 use Rattle.qcow2_spec.specs.Header.{version, cluster_size, per_table}
 use Rattle.qcow2_spec.specs.Entries.{place}

@@ -1,5 +1,6 @@
 -- Laws of a walk over an L1 table: how many entries pass with all below them.
 -- Assumes nothing.
+use Rattle.std.specs.Prelude.{if◌then◌else◌}
 use Prim.Native.Nat.{ℕ, ◌+◌, ◌≤◌, ◌<◌}
 use mathlib.Core.Path.{◌≡◌, refl}
 use mathlib.Core.Bool.{Bool, true, false}
@@ -7,7 +8,6 @@ use mathlib.Core.List.{List}
 use native.Mathlib.Omega.{arith}
 use borrow.Author.Tests.{eq-eqb, eqb-true, eqb-false, ltb-true, ltb-false}
 use lib.Dec.{eqb, ltb}
-use Rattle.choice.specs.Pick.{if◌then◌else◌}
 use Rattle.qcow2_spec.specs.Header.{per_table}
 use Rattle.qcow2_refs.specs.declared.Progress.{Progress}
 use Rattle.qcow2_refs.specs.Walks.{PassTo, Found, walked, row_front, row_at, below_at, entry_passes}

@@ -1,7 +1,7 @@
 -- A walk over tables: how many entries pass at the front, and where the first is that does not.
 -- Assumes nothing.
-use Rattle.std.specs.Prelude.{ℕ, ◌+◌, ◌*◌, ◌≤◌, ◌<◌, ◌≡◌, Bool, true, false, not, ◌&&◌, ◌||◌, List, eqb, ltb, length}
-use Rattle.choice.specs.Pick.{if◌then◌else◌, all}
+use Rattle.std.specs.Prelude.{ℕ, ◌+◌, ◌*◌, ◌≤◌, ◌<◌, ◌≡◌, Bool, true, false, not, ◌&&◌, ◌||◌, List, eqb, ltb, length, if◌then◌else◌}
+use Rattle.choice.specs.Pick.{all}
 use Rattle.endian.specs.Big.{be64, part}
 use Rattle.qcow2_spec.specs.Header.{version, cluster_size, per_table, root_at}
 use Rattle.qcow2_spec.specs.Entries.{place, common, good_l1}

@@ -1,7 +1,6 @@
 // Visiting what the L1 and L2 tables refer to: an L2 table by one kind, and what stands below it, data, by another. A bad entry refers to nothing,
 // and the walk goes on past it.
-ghost use Rattle.std.specs.Prelude.{◌≡◌, true, ◌&&◌, ◌≢◌, ◌+◌, ◌*◌, ◌^◌, ◌≤◌, ◌<◌, eqb, length};
-ghost use Rattle.choice.specs.Pick.{if◌then◌else◌};
+ghost use Rattle.std.specs.Prelude.{◌≡◌, true, ◌&&◌, ◌≢◌, ◌+◌, ◌*◌, ◌^◌, ◌≤◌, ◌<◌, eqb, length, if◌then◌else◌};
 ghost use Rattle.tally.specs.States.{entry_visited, tree_visited};
 ghost use Rattle.qcow2_spec.specs.Header.{per_table};
 ghost use Rattle.qcow2_spec.specs.Entries.{place, good_l1};

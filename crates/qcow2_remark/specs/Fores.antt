@@ -1,7 +1,6 @@
 -- How far marks are right in tables whose entries may be bad.
 -- Assumes nothing.
-use Rattle.std.specs.Prelude.{ℕ, ◌+◌, Bool, not, ◌||◌, List, eqb, length}
-use Rattle.choice.specs.Pick.{if◌then◌else◌}
+use Rattle.std.specs.Prelude.{ℕ, ◌+◌, Bool, not, ◌||◌, List, eqb, length, if◌then◌else◌}
 use Rattle.qcow2_spec.specs.Header.{cluster_size, per_table}
 use Rattle.qcow2_spec.specs.Entries.{place, good_l1, good_l2}
 use Rattle.qcow2_spec.specs.References.{l2_entries}

@@ -1,4 +1,5 @@
 -- In an image whose verdict is leaks there is a count to set. Assumes nothing.
+use Rattle.std.specs.Prelude.{if◌then◌else◌}
 use Prim.Native.Nat.{ℕ, zero, suc, ◌+◌, ◌<◌}
 use native.Mathlib.Nat.{add-zero, add-suc, suc-add, zero-add, not-suc-le-zero}
 use native.Mathlib.Omega.{arith}
@@ -8,7 +9,6 @@ use mathlib.Core.List.{List, [], ◌∷◌}
 use lib.Dec.{eqb}
 use lib.ListN.{length, get_or, length-append}
 use borrow.Author.Tests.{eqb-true}
-use Rattle.choice.specs.Pick.{if◌then◌else◌}
 use Rattle.cuts.proofs.Cell.{mem}
 use Rattle.cuts.proofs.Meta.{Sound}
 use Rattle.qcow2_spec.specs.Header.{cluster_size, clusters}

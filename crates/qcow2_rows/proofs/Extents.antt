@@ -1,4 +1,5 @@
 -- The extents of units that come one after the other. Assumes nothing.
+use Rattle.std.specs.Prelude.{if◌then◌else◌}
 use Prim.Native.Nat.{ℕ, suc, ◌<◌}
 use native.Mathlib.Omega.{arith}
 use mathlib.Core.Path.{◌≡◌, refl, ap, ◌∙◌}
@@ -7,7 +8,6 @@ use mathlib.Core.List.{List, [], ◌∷◌, ◌++◌}
 use lib.Dec.{eqb}
 use lib.ListN.{length}
 use borrow.Author.Tests.{eq-eqb}
-use Rattle.choice.specs.Pick.{if◌then◌else◌}
 use Rattle.units.specs.Units.{UnitStore, byte, entry, count, fill}
 use Rattle.qcow2_spec.specs.Steps.{Extent, filled, whole, join, extents}
 

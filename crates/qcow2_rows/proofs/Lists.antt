@@ -1,11 +1,11 @@
 -- The rows of a write's and a discard's lists. Assumes nothing.
+use Rattle.std.specs.Prelude.{if◌then◌else◌}
 use Prim.Native.Nat.{ℕ, suc, ◌+◌, ◌^◌, ◌≤◌, ◌<◌}
 use native.Mathlib.Omega.{arith}
 use mathlib.Core.Path.{◌≡◌, refl, ap, ◌∙◌}
 use mathlib.Core.Bool.{Bool, true, false}
 use mathlib.Core.List.{List, [], ◌∷◌, ◌++◌, append-nil}
 use lib.ListN.{length, replicate, length-replicate}
-use Rattle.choice.specs.Pick.{if◌then◌else◌}
 use Rattle.endian.specs.Big.{splice}
 use Rattle.endian.proofs.Laws.{length-splice}
 use Rattle.units.specs.Units.{UnitStore, entry, count, fill, cluster}

@@ -1,5 +1,6 @@
 -- Runs that are stored one after the other.
 -- Assumes nothing.
+use Rattle.std.specs.Prelude.{if◌then◌else◌}
 use Prim.Native.Nat.{ℕ, zero, suc, ◌+◌, ◌-◌, ◌*◌, ◌/◌, ◌≤◌, ◌<◌}
 use native.Mathlib.Nat.{add-zero, sub-zero}
 use native.Mathlib.Omega.{arith}
@@ -9,7 +10,6 @@ use mathlib.Core.List.{List, [], ◌∷◌, ◌++◌}
 use borrow.Author.Tests.{ne_eqb, lt-ltb, lt-leb, ltb-true, ltb-false}
 use lib.Dec.{eqb, ltb}
 use lib.ListN.{length, set, length-append}
-use Rattle.choice.specs.Pick.{if◌then◌else◌}
 use Rattle.power.proofs.Laws.{same_test}
 use Rattle.endian.specs.Big.{splice}
 use Rattle.endian.proofs.Laws.{length-splice, splice-next, splice-none, splice-more, set-two}

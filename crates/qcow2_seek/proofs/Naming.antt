@@ -1,5 +1,6 @@
 -- Laws of a search over an L1 table for the first entry that fails.
 -- Assumes nothing.
+use Rattle.std.specs.Prelude.{if◌then◌else◌}
 use Prim.Native.Nat.{ℕ, zero, suc, ◌+◌, ◌-◌, ◌*◌, ◌≤◌, ◌<◌}
 use mathlib.Core.Path.{◌≡◌, refl, sym, ◌∙◌}
 use mathlib.Core.Bool.{Bool, true, false, not, ◌||◌, true≢false}
@@ -9,7 +10,7 @@ use native.Mathlib.Omega.{arith}
 use borrow.Author.Tests.{ltb-true, ltb-false}
 use lib.Dec.{eqb, ltb}
 use lib.ListN.{drop}
-use Rattle.choice.specs.Pick.{if◌then◌else◌, all}
+use Rattle.choice.specs.Pick.{all}
 use Rattle.choice.proofs.Tests.{and-true}
 use Rattle.endian.specs.Big.{entries, part}
 use Rattle.endian.proofs.Entries.{be64-drop, entries_turn, entries_none}

@@ -1,8 +1,7 @@
 // One search over an L1 table, for its first bad entry or for its first wrong mark.
 #![tactic(auto)]
 
-ghost use Rattle.std.specs.Prelude.{◌≡◌, ◌≤◌};
-ghost use Rattle.choice.specs.Pick.{if◌then◌else◌};
+ghost use Rattle.std.specs.Prelude.{◌≡◌, ◌≤◌, if◌then◌else◌};
 ghost use Rattle.tally.specs.States.{twos};
 ghost use Rattle.qcow2_spec.specs.References.{l1_entries};
 ghost use Rattle.qcow2_spec.specs.Check.{l1_verdict};

@@ -1,7 +1,6 @@
 -- The phase of a table entry: 1 where the batch has new bytes of it, else 2.
 -- Assumes nothing.
-use Rattle.std.specs.Prelude.{ℕ, ◌/◌, ◌^◌, List, ◌∷◌}
-use Rattle.choice.specs.Pick.{if◌then◌else◌}
+use Rattle.std.specs.Prelude.{ℕ, ◌/◌, ◌^◌, List, ◌∷◌, if◌then◌else◌}
 use Rattle.widths.specs.Width.{span}
 use Rattle.qcow2_spec.specs.Steps.{Extent, whole}
 use Rattle.qcow2_put.specs.declared.linking.Places.{Places}

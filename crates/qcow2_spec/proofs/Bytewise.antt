@@ -1,5 +1,6 @@
 -- A read is refused as its bytes are, a translation as the read of its byte is, and a read is accepted exactly where none of its bytes is
 -- refused. Assumes nothing.
+use Rattle.std.specs.Prelude.{if◌then◌else◌}
 use Prim.Native.Nat.{ℕ, zero, suc, ◌+◌, ◌-◌, ◌*◌, ◌/◌, ◌%◌, ◌≤◌, ◌<◌}
 use native.Mathlib.Nat.{le-div_iff_mul-le, div-lt_iff_lt-mul, div-mul-le_self, lt-div-mul-add, suc-ne-zero, zero-lt-suc}
 use native.Mathlib.Omega.{arith}
@@ -10,7 +11,7 @@ use mathlib.Core.List.{List, [], ◌∷◌}
 use lib.Dec.{leb, ltb, eqb}
 use lib.ListN.{length}
 use borrow.Author.Tests.{ltb-true, ltb-false, leb-false, eqb-true, eqb-false, lt-ltb, le-ltb, le-leb, lt-leb, ne_eqb}
-use Rattle.choice.specs.Pick.{if◌then◌else◌, unless}
+use Rattle.choice.specs.Pick.{unless}
 use Rattle.choice.proofs.Tests.{if_yes, if_no, if_zero, if_elim, or-false, false-or}
 use Rattle.endian.specs.Big.{be64, part}
 use Rattle.qcow2_spec.specs.Header.{version, cluster_size, disk_size, per_table, snapshots, roots, judge_lent, some_lent, judge}

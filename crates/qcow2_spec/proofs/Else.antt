@@ -1,11 +1,11 @@
 -- A search over L1 tables goes on with `next` where it finds nothing: so it may be made with `Sound` first, and `next` looked at where that is
 -- the answer. Assumes nothing.
+use Rattle.std.specs.Prelude.{if◌then◌else◌}
 use Prim.Native.Nat.{ℕ, zero, suc}
 use mathlib.Core.Path.{◌≡◌, refl, sym, ap, ◌∙◌}
 use mathlib.Core.Bool.{Bool, true, false, not}
 use mathlib.Core.List.{List, [], ◌∷◌}
 use lib.Dec.{eqb}
-use Rattle.choice.specs.Pick.{if◌then◌else◌}
 use Rattle.qcow2_spec.specs.Entries.{place}
 use Rattle.qcow2_spec.specs.References.{l1_entries, l2_entries}
 use Rattle.qcow2_spec.specs.Check.{or_else, Seek, l2_verdict, entry_verdict, l1_verdict, bad_in, roots_verdict, wrong_marks}

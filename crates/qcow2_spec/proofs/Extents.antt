@@ -1,4 +1,5 @@
 -- The extents of a list cover the bytes that its units store to, and no others; so epochs that lie apart are brought by them. Assumes nothing.
+use Rattle.std.specs.Prelude.{if◌then◌else◌}
 use Prim.Native.Nat.{ℕ, zero, suc, ◌+◌, ◌≤◌, ◌<◌}
 use native.Mathlib.Decide.{dec_lt}
 use native.Mathlib.Omega.{arith}
@@ -10,7 +11,6 @@ use mathlib.Core.List.{List, [], ◌∷◌, ◌++◌}
 use lib.Dec.{leb, ltb, eqb}
 use lib.ListN.{get_or, take}
 use borrow.Author.Tests.{leb-true, leb-false, ltb-true, ltb-false, eqb-true, le-leb, lt-leb, lt-ltb, le-ltb}
-use Rattle.choice.specs.Pick.{if◌then◌else◌}
 use Rattle.choice.proofs.Tests.{true-not-false, if_elim, and-true, or-false, false-or, two_ways}
 use Rattle.units.specs.Units.{UnitStore, byte, entry, count, apply, apply_all}
 use Rattle.units.proofs.Laws.{apply_all_append}

@@ -1,4 +1,5 @@
 -- What kind of call a list of units is: on an image that is sound or leaking every list that is not refused is of one of eight kinds, with what is so of the image. Assumes nothing.
+use Rattle.std.specs.Prelude.{if◌then◌else◌}
 use Prim.Native.Nat.{ℕ, ◌+◌, ◌-◌, ◌*◌, ◌/◌, ◌%◌, ◌^◌, ◌≤◌, ◌<◌}
 use native.Mathlib.Nat.{zero-lt-suc, zero-div, div-lt_iff_lt-mul, mod-lt, lt_of_mul-lt-mul_right}
 use native.Mathlib.Decide.{ℕ_discrete}
@@ -13,7 +14,6 @@ use borrow.Author.Tests.{ltb-false, leb-false, eqb-true, eqb-false}
 use Rattle.cuts.proofs.Meta.{cnt, tab, dat, mark, refs_of, Sound}
 use Rattle.cuts.proofs.Step.{gread, gread_none, gread_absent, free-not-0}
 use Rattle.cuts.proofs.Write.{Body, body-zeros, gread_marked}
-use Rattle.choice.specs.Pick.{if◌then◌else◌}
 use Rattle.choice.proofs.Each.{length-each}
 use Rattle.choice.proofs.Runs.{first-low}
 use Rattle.choice.proofs.Found.{first_passes}

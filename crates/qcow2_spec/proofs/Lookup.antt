@@ -1,4 +1,5 @@
 -- A lookup gives the bytes that a read gives. Assumes nothing.
+use Rattle.std.specs.Prelude.{if◌then◌else◌}
 use Prim.Native.Nat.{ℕ, zero, suc, ◌+◌, ◌-◌, ◌*◌, ◌/◌, ◌%◌, ◌≤◌, ◌<◌, min}
 use native.Mathlib.Nat.{div-add-mod', div-eq_of_lt-le, suc-ne-zero}
 use native.Mathlib.Omega.{arith}
@@ -9,7 +10,7 @@ use lib.Dec.{ltb, eqb}
 use lib.ListN.{length, get_or, drop, length-take}
 use lib.Seq.{get_or-take, get_or-drop}
 use borrow.Author.Tests.{ltb-true, ltb-false}
-use Rattle.choice.specs.Pick.{if◌then◌else◌, each}
+use Rattle.choice.specs.Pick.{each}
 use Rattle.choice.proofs.Each.{each_list}
 use Rattle.endian.specs.Big.{part}
 use Rattle.qcow2_spec.specs.Header.{cluster_size, disk_size, some_lent, judge_lent, judge}

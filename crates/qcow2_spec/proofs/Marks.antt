@@ -1,5 +1,6 @@
 -- An image without snapshots in which nothing is shared and every place has bit 63 beside it has right marks: its check need not look at them
 -- again. Assumes nothing.
+use Rattle.std.specs.Prelude.{if◌then◌else◌}
 use Prim.Native.Nat.{ℕ, suc, ◌+◌, ◌/◌, ◌≤◌, ◌<◌}
 use native.Mathlib.Nat.{div-lt_iff_lt-mul}
 use native.Mathlib.Omega.{arith}
@@ -10,7 +11,7 @@ use mathlib.Core.List.{List, [], ◌∷◌}
 use lib.Dec.{eqb}
 use lib.ListN.{get_or, length}
 use borrow.Author.Tests.{ltb-false, eqb-false, eq-eqb, ne_eqb, not-true}
-use Rattle.choice.specs.Pick.{if◌then◌else◌, all, first}
+use Rattle.choice.specs.Pick.{all, first}
 use Rattle.choice.proofs.Runs.{first_passed}
 use Rattle.choice.proofs.Tests.{if_yes, true-not-false, and-true}
 use Rattle.tally.specs.Tally.{run, joined, occurrences}

@@ -1,4 +1,5 @@
 -- The references of a cluster, counted in the definitions' list, are the machinery's sum, where every entry is good. Assumes nothing.
+use Rattle.std.specs.Prelude.{if◌then◌else◌}
 use Prim.Native.Nat.{ℕ, zero, suc, ◌+◌, ◌-◌, ◌*◌, ◌/◌, ◌%◌, ◌≤◌, ◌<◌}
 use native.Mathlib.Nat.{div-add-mod', zero-mul, zero-add, add-zero, zero-div, le_refl}
 use native.Mathlib.Decide.{ℕ_discrete}
@@ -14,7 +15,7 @@ use Rattle.cuts.proofs.Sum.{sum_to, sum_cong, sum-zero, sum_split, sum-short, su
 use Rattle.cuts.proofs.Refs.{when_yes, hit, hit_zero, refs, tabs, dats, within, within-is, within-not, tree_refs}
 use Rattle.cuts.proofs.Cell.{mem}
 use Rattle.cuts.proofs.Meta.{same, blk, tree, l1, l2, rooted, fix, tab, dat, refs_of, dat_none, dat_some}
-use Rattle.choice.specs.Pick.{if◌then◌else◌, ceil_div}
+use Rattle.choice.specs.Pick.{ceil_div}
 use Rattle.endian.specs.Big.{be64, part, entries}
 use Rattle.endian.proofs.Entries.{be64-drop, take-entries}
 use Rattle.qcow2_spec.specs.Header.{most_l1, version, cluster_size, table_at, table_clusters, blocks, per_table, table, block_at, snapshots, snapshots_at, snapshot_at, roots, root_size, root_at}

@@ -1,5 +1,6 @@
 -- Why a cut leaves units picked: a drive that stores each sector of an epoch whole or not at all, in any order, leaves a sub-list of the
 -- epoch's units, if no unit lies over a sector's end. Assumes nothing.
+use Rattle.std.specs.Prelude.{if◌then◌else◌}
 use Prim.Native.Nat.{ℕ, zero, suc, ◌+◌, ◌/◌, ◌%◌, ◌^◌, ◌≤◌, ◌<◌}
 use native.Mathlib.Nat.{zero-add}
 use native.Mathlib.Decide.{ℕ_discrete, dec_lt, dec_le}
@@ -12,14 +13,14 @@ use lib.Dec.{leb}
 use borrow.Author.Tests.{lt-leb}
 use lib.ListN.{length, get_or, set, length-set}
 use lib.Seq.{sets, set_out, get_or-set_same, get_or-set_other}
-use Rattle.choice.specs.Pick.{if◌then◌else◌, each}
+use Rattle.choice.specs.Pick.{each}
 use Rattle.choice.proofs.Each.{each_list}
 use Rattle.choice.proofs.Tests.{true-not-false, if_no, if_elim}
 use Rattle.endian.specs.Big.{bytes64}
 use Rattle.endian.proofs.Laws.{length-bytes64}
 use Rattle.widths.specs.Width.{span}
 use Rattle.widths.proofs.Whole.{each-order}
-use Rattle.widths.proofs.Cells.{recell, length_recell, recell_cong, get_d_sets_out, stored_recell}
+use Rattle.widths.proofs.Cells.{recell, length_recell, recell_cong, get_or-sets_out, stored_recell}
 use Rattle.units.specs.Units.{UnitStore, byte, entry, count, apply, apply_all}
 use Rattle.units.proofs.Laws.{length-apply, length-apply_all, apply_all_append}
 use Rattle.qcow2_spec.specs.Flush.{picked, loosely, drive, drive_cut}
@@ -72,7 +73,7 @@ pub apply_out : (u : UnitStore) (s : List ℕ) (x : ℕ) → (x < spot u) ⊎ (s
 apply_out u s x d =
     let bs = bytes_of u (λ y. get_or s y 0) in
     ap (λ (l : List ℕ). get_or l x 0) (apply-is u s)
-    ∙ get_d_sets_out bs s (spot u) 0 x (subst (λ (n : ℕ). (x < spot u) ⊎ (spot u + n ≤ x)) (sym (length_bytes_of u (λ y. get_or s y 0))) d)
+    ∙ get_or-sets_out bs s (spot u) 0 x (subst (λ (n : ℕ). (x < spot u) ⊎ (spot u + n ≤ x)) (sym (length_bytes_of u (λ y. get_or s y 0))) d)
 
 -- they depend on the bytes in their place alone
 bytes_of_cong : (u : UnitStore) (f g : ℕ → ℕ) → ((x : ℕ) → spot u ≤ x → x < spot u + wide u → f x ≡ g x) → bytes_of u f ≡ bytes_of u g

@@ -1,4 +1,5 @@
 -- What the guest and its snapshots read, from what the machinery says of the clusters: a call that leaves the reads, zeroes a guest cluster or writes bytes into it feeds the plain disk so. Assumes nothing.
+use Rattle.std.specs.Prelude.{if◌then◌else◌}
 use Prim.Native.Nat.{ℕ, ◌+◌, ◌-◌, ◌*◌, ◌/◌, ◌%◌, ◌≤◌, ◌<◌}
 use native.Mathlib.Nat.{mod-lt, div-add-mod', mul-le-mul_right}
 use native.Mathlib.Decide.{ℕ_discrete, dec_le, dec_lt}
@@ -15,7 +16,6 @@ use Rattle.cuts.proofs.Meta.{cnt, refs_of}
 use Rattle.cuts.proofs.Step.{gread, split_index}
 use Rattle.cuts.proofs.Call.{Ok, SameGuest, Zeroed}
 use Rattle.cuts.proofs.Write.{Wrote, Partly}
-use Rattle.choice.specs.Pick.{if◌then◌else◌}
 use Rattle.qcow2_spec.specs.Header.{most_l1, cluster_size, clusters, disk_size, per_table, roots, root_size}
 use Rattle.qcow2_spec.specs.Guest.{backing_byte, reach}
 use Rattle.units.specs.declared.Outcome.{Outcome}

@@ -1,4 +1,5 @@
 -- Demand 3, for a drive that keeps no order between two flushes, and so for rough cuts and smooth ones: the theorem about every series of calls on every image that is sound or leaking. Assumes nothing.
+use Rattle.std.specs.Prelude.{if◌then◌else◌}
 use Prim.Native.Nat.{ℕ, zero, suc, ◌+◌, ◌-◌, ◌*◌, ◌/◌, ◌%◌, ◌≤◌, ◌<◌}
 use native.Mathlib.Nat.{le_refl, mod-lt}
 use native.Mathlib.Decide.{dec_lt}
@@ -13,7 +14,7 @@ use borrow.Author.Tests.{leb-true, le-ltb, le-leb, lt-leb}
 use Rattle.cuts.proofs.Cell.{mem}
 use Rattle.cuts.proofs.Meta.{Geo, Codec, cnt, refs_of, Sound}
 use Rattle.cuts.proofs.Call.{Ok}
-use Rattle.choice.specs.Pick.{if◌then◌else◌, unless, each}
+use Rattle.choice.specs.Pick.{unless, each}
 use Rattle.qcow2_spec.specs.Header.{cluster_size, clusters, disk_size, per_table, roots, judge}
 use Rattle.qcow2_spec.specs.Counts.{count_of}
 use Rattle.qcow2_spec.specs.Guest.{backing_byte, guest_byte, reach, outside, read_into}

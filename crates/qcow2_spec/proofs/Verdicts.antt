@@ -1,4 +1,5 @@
 -- What the verdict says, in the machinery's terms. Assumes nothing.
+use Rattle.std.specs.Prelude.{if◌then◌else◌}
 use Prim.Native.Nat.{ℕ, zero, suc, ◌+◌, ◌-◌, ◌*◌, ◌/◌, ◌%◌, ◌^◌, ◌≤◌, ◌<◌, zero-le, min}
 use native.Mathlib.Nat.{zero-add, not-suc-le-zero, zero-div, div-lt_iff_lt-mul, le_refl}
 use native.Mathlib.Decide.{ℕ_discrete, dec_lt}
@@ -15,7 +16,7 @@ use Rattle.cuts.proofs.Refs.{tabs, dats, refs_is, tree_refs}
 use Rattle.cuts.proofs.Meta.{l1, l2, tab, dat, dat_none, dat_some, blk, fix, refs_of, Right, Sound}
 use Rattle.choice.proofs.Runs.{first_passed}
 use Rattle.choice.proofs.Found.{first-false, count-zero, count-false}
-use Rattle.choice.specs.Pick.{if◌then◌else◌, all, first, count}
+use Rattle.choice.specs.Pick.{all, first, count}
 use Rattle.endian.specs.Big.{be64, part, entries}
 use Rattle.endian.proofs.Entries.{be64-drop}
 use Rattle.qcow2_spec.specs.Header.{most_l1, version, cluster_size, clusters, blocks, per_table, roots, root_size, root_at}

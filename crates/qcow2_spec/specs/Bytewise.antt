@@ -1,8 +1,8 @@
 -- A read byte by byte, by where the tables have each of its bytes. `read_number` goes by guest clusters and is refused as this is
 -- (proofs/Bytewise.antt), a translation is the read of one byte, and a lookup gives the same bytes (proofs/Lookup.antt).
 -- Assumes nothing.
-use Rattle.std.specs.Prelude.{ℕ, zero, suc, ◌+◌, ◌≡◌, List, [], ◌∷◌, leb, ltb, eqb, length}
-use Rattle.choice.specs.Pick.{if◌then◌else◌, unless, each}
+use Rattle.std.specs.Prelude.{ℕ, zero, suc, ◌+◌, ◌≡◌, List, [], ◌∷◌, leb, ltb, eqb, length, if◌then◌else◌}
+use Rattle.choice.specs.Pick.{unless, each}
 use Rattle.qcow2_spec.specs.Header.{roots, judge}
 use Rattle.qcow2_spec.specs.Guest.{located, translate, found_byte, reach, read_number, read_into, in_place}
 use Rattle.qcow2_spec.specs.declared.Found.{Found}

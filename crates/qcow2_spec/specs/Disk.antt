@@ -1,7 +1,6 @@
 -- The calls of a series, and the plain disk that they are fed to. Paper 01, "The plain disk and the series".
 -- Assumes nothing.
-use Rattle.std.specs.Prelude.{ℕ, ◌+◌, ◌-◌, ◌/◌, ◌<◌, ◌≡◌, ◌⊎◌, Bool, true, false, ◌&&◌, List, leb, ltb, eqb, length, get_or}
-use Rattle.choice.specs.Pick.{if◌then◌else◌}
+use Rattle.std.specs.Prelude.{ℕ, ◌+◌, ◌-◌, ◌/◌, ◌<◌, ◌≡◌, ◌⊎◌, Bool, true, false, ◌&&◌, List, leb, ltb, eqb, length, get_or, if◌then◌else◌}
 use Rattle.units.specs.Plan.{Plan}
 use Rattle.units.specs.declared.Outcome.{Outcome}
 use Rattle.units.specs.declared.Outcome.TheVariants.{Finished, Stopped, Refused}

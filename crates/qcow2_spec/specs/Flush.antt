@@ -1,7 +1,7 @@
 -- Where a call's list is flushed, and what a power cut leaves on a drive that keeps no order between two flushes.
 -- Assumes nothing.
-use Rattle.std.specs.Prelude.{ℕ, zero, suc, ◌+◌, ◌-◌, ◌/◌, Bool, true, false, ◌&&◌, List, [], ◌∷◌, ◌++◌, leb, length, get_or, take, drop}
-use Rattle.choice.specs.Pick.{if◌then◌else◌, each}
+use Rattle.std.specs.Prelude.{ℕ, zero, suc, ◌+◌, ◌-◌, ◌/◌, Bool, true, false, ◌&&◌, List, [], ◌∷◌, ◌++◌, leb, length, get_or, take, drop, if◌then◌else◌}
+use Rattle.choice.specs.Pick.{each}
 use Rattle.units.specs.Units.{UnitStore, byte, entry, count, apply_all}
 use Rattle.units.specs.Plan.{Plan, plan_units}
 use Rattle.qcow2_spec.specs.Store.{clear_units}

@@ -1,8 +1,8 @@
 -- Guest bytes that go on alike, as runs: all zeros by mark, all not allocated, all refused with one number, or at host offsets that
 -- go on one by one. Paper 01, "Reading".
 -- Assumes nothing.
-use Rattle.std.specs.Prelude.{ℕ, zero, suc, ◌+◌, ◌-◌, ◌/◌, Bool, not, ◌&&◌, List, [], ◌∷◌, ◌++◌, eqb, length}
-use Rattle.choice.specs.Pick.{if◌then◌else◌, unless, first}
+use Rattle.std.specs.Prelude.{ℕ, zero, suc, ◌+◌, ◌-◌, ◌/◌, Bool, not, ◌&&◌, List, [], ◌∷◌, ◌++◌, eqb, length, if◌then◌else◌}
+use Rattle.choice.specs.Pick.{unless, first}
 use Rattle.endian.specs.Big.{splice}
 use Rattle.qcow2_spec.specs.Header.{judge}
 use Rattle.qcow2_spec.specs.Guest.{located, outside}

@@ -1,7 +1,7 @@
 -- The steps of a call that was run in memory, for a store that brings what it changed to a file: which bytes, and in which epoch.
 -- Assumes nothing.
-use Rattle.std.specs.Prelude.{ℕ, suc, ◌+◌, ◌*◌, ◌/◌, min, ◌≡◌, Bool, true, false, ◌&&◌, ◌||◌, List, [], ◌∷◌, ◌++◌, leb, ltb, eqb, length, get_or, take}
-use Rattle.choice.specs.Pick.{if◌then◌else◌, each}
+use Rattle.std.specs.Prelude.{ℕ, suc, ◌+◌, ◌*◌, ◌/◌, min, ◌≡◌, Bool, true, false, ◌&&◌, ◌||◌, List, [], ◌∷◌, ◌++◌, leb, ltb, eqb, length, get_or, take, if◌then◌else◌}
+use Rattle.choice.specs.Pick.{each}
 use Rattle.endian.specs.Big.{splice}
 use Rattle.widths.specs.Width.{span}
 use Rattle.units.specs.Units.{UnitStore, byte, entry, count}

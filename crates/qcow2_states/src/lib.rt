@@ -6,7 +6,7 @@ ghost use Rattle.choice.specs.Pick.{first};
 ghost use Rattle.endian.specs.Big.{part};
 ghost use Rattle.tally.specs.States.{table_kind, data_kind};
 ghost use Rattle.window.specs.Window.{board, tree_visited_in};
-ghost use Rattle.qcow2_spec.specs.Header.{clusters as clustersOf, roots};
+ghost use Rattle.qcow2_spec.specs.Header.{clusters as clusters_of, roots};
 ghost use Rattle.qcow2_spec.specs.References.{l1_entries, l1_refs};
 ghost use Rattle.qcow2_spec.specs.Check.{or_else, l1_verdict, bad_in, roots_verdict, shared_at};
 ghost use Rattle.qcow2_spec.specs.Opened.{Active};
@@ -78,7 +78,7 @@ fn look_window(image: &[u8], window: &mut [u8], g: Geometry, b: usize) -> Looked
 // All clusters, window by window: the lowest shared one ends the search.
 pub fn look(image: &[u8], window: &mut [u8], g: Geometry) -> Looked
     requires { Active g image.now × (2 ≤ length window.old) }
-    ensures { (result.shared ≡ first (shared_at image.now) 0 (clustersOf image.now)) × (result.good ≡ true → roots_verdict image.now 0 (roots image.now) Sound ≡ Sound) }
+    ensures { (result.shared ≡ first (shared_at image.now) 0 (clusters_of image.now)) × (result.good ≡ true → roots_verdict image.now 0 (roots image.now) Sound ≡ Sound) }
 {
     let n = g.clusters;
     let most = window.len() / 2;

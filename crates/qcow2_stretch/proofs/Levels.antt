@@ -1,5 +1,6 @@
 -- What lies below an L1 entry.
 -- Assumes nothing.
+use Rattle.std.specs.Prelude.{if◌then◌else◌}
 use Prim.Native.Nat.{ℕ, ◌+◌, ◌-◌, ◌/◌, ◌%◌, ◌^◌, ◌≤◌, ◌<◌}
 use native.Mathlib.Omega.{arith}
 use mathlib.Core.Path.{◌≡◌, refl, sym, ◌∙◌}
@@ -8,7 +9,6 @@ use mathlib.Core.List.{List}
 use borrow.Author.Tests.{ne_eqb}
 use lib.Dec.{eqb}
 use lib.ListN.{length}
-use Rattle.choice.specs.Pick.{if◌then◌else◌}
 use Rattle.qcow2_spec.specs.Header.{cluster_size, per_table}
 use Rattle.qcow2_spec.specs.Entries.{place, good_place, good_l1}
 use Rattle.qcow2_spec.specs.Guest.{l1_entry, l2_way, way, way_gives, located}

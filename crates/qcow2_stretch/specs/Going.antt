@@ -1,7 +1,6 @@
 -- A run by the entries of L1 table root, and by the entries of an L2 table.
 -- Assumes nothing.
-use Rattle.std.specs.Prelude.{ℕ, ◌+◌, ◌-◌, ◌%◌, ◌^◌, ◌≤◌, ◌<◌, ◌≡◌, true, false, not, List, eqb, length}
-use Rattle.choice.specs.Pick.{if◌then◌else◌}
+use Rattle.std.specs.Prelude.{ℕ, ◌+◌, ◌-◌, ◌%◌, ◌^◌, ◌≤◌, ◌<◌, ◌≡◌, true, false, not, List, eqb, length, if◌then◌else◌}
 use Rattle.qcow2_spec.specs.Header.{cluster_size}
 use Rattle.qcow2_spec.specs.Entries.{place, good_l1}
 use Rattle.qcow2_spec.specs.Guest.{reach, l1_entry}

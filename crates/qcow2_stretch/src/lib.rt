@@ -1,8 +1,7 @@
 // Stretches of guest bytes below one L1 entry, which is looked up once for all of them.
 #![tactic(auto)]
 
-ghost use Rattle.std.specs.Prelude.{◌≡◌, ◌+◌, ◌/◌, ◌^◌, ◌<◌};
-ghost use Rattle.choice.specs.Pick.{if◌then◌else◌};
+ghost use Rattle.std.specs.Prelude.{◌≡◌, ◌+◌, ◌/◌, ◌^◌, ◌<◌, if◌then◌else◌};
 ghost use Rattle.qcow2_spec.specs.Header.{per_table, root_size};
 ghost use Rattle.qcow2_spec.specs.Guest.{located};
 ghost use Rattle.qcow2_spec.specs.Opened.{Opened};

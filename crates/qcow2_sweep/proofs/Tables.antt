@@ -1,9 +1,9 @@
 -- Laws of groups of entries of an L2 table and of what they refer to.
 -- Assumes nothing.
-use Rattle.std.proofs.Common.{◌≡◌, ℕ, zero, suc, ◌+◌, ◌-◌, ◌*◌, ◌<◌, ◌≤◌, Bool, true, false, ◌&&◌, eqb, List, [], ◌∷◌, ◌++◌, length, take, drop, sym, refl, ap, ◌∙◌, append_assoc, zero-add, arith, length-drop, drop-drop, eq-eqb, ne_eqb, eqb-true}
+use Rattle.std.proofs.Common.{◌≡◌, ℕ, zero, suc, ◌+◌, ◌-◌, ◌*◌, ◌<◌, ◌≤◌, Bool, true, false, ◌&&◌, eqb, List, [], ◌∷◌, ◌++◌, length, take, drop, sym, refl, ap, ◌∙◌, append_assoc, zero-add, arith, length-drop, drop-drop, eq-eqb, ne_eqb, eqb-true, if◌then◌else◌}
 use mathlib.Core.Bool.{and_assoc, and-true}
 use borrow.Author.Tests.{eqb-false}
-use Rattle.choice.specs.Pick.{if◌then◌else◌, all}
+use Rattle.choice.specs.Pick.{all}
 use Rattle.choice.proofs.Tests.{and-true as all_true}
 use Rattle.endian.specs.Big.{be64, entries}
 use Rattle.endian.proofs.Entries.{length-entries, entries_turn, entries_none}

@@ -1,8 +1,8 @@
 // A sweep over the entries of an L2 table: each visits what it refers to in a window, and is tested.
 #![tactic(auto)]
 
-ghost use Rattle.std.specs.Prelude.{◌≡◌, ◌+◌, ◌*◌, ◌%◌, ◌^◌, ◌≤◌, ◌&&◌, length, nat_eq};
-ghost use Rattle.choice.specs.Pick.{if◌then◌else◌, all};
+ghost use Rattle.std.specs.Prelude.{◌≡◌, ◌+◌, ◌*◌, ◌%◌, ◌^◌, ◌≤◌, ◌&&◌, length, nat_eq, if◌then◌else◌};
+ghost use Rattle.choice.specs.Pick.{all};
 ghost use Rattle.tally.specs.Tally.{joined};
 ghost use Rattle.window.specs.Window.{board, visit_all_in};
 ghost use Rattle.qcow2_spec.specs.Header.{most_bits};

@@ -1,5 +1,6 @@
 -- What a sweep looks for: bad entries alone with kinds that set no bits, and common ones too where it sets bits.
 -- Assumes nothing.
+use Rattle.std.specs.Prelude.{if◌then◌else◌}
 use Prim.Native.Nat.{ℕ, suc}
 use mathlib.Core.Path.{◌≡◌, refl, ap, ap₂, fun_ext}
 use mathlib.Core.Logic.{◌≢◌}
@@ -9,7 +10,7 @@ use native.Mathlib.Omega.{arith}
 use borrow.Author.Tests.{ne_eqb}
 use lib.Dec.{eqb}
 use lib.ListN.{length}
-use Rattle.choice.specs.Pick.{if◌then◌else◌, all}
+use Rattle.choice.specs.Pick.{all}
 use Rattle.window.specs.Window.{bit_kind}
 use Rattle.qcow2_spec.specs.Header.{version, cluster_size}
 use Rattle.qcow2_spec.specs.Entries.{place, good_l1, good_l2}

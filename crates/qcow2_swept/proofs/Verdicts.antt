@@ -1,5 +1,6 @@
 -- Laws of verdicts: the verdict by how an L1 entry fares.
 -- Assumes nothing.
+use Rattle.std.specs.Prelude.{if◌then◌else◌}
 use Prim.Native.Nat.{ℕ, suc, ◌+◌, ◌-◌, ◌*◌, ◌≤◌, ◌<◌}
 use mathlib.Core.Path.{◌≡◌, refl, sym, ap, ◌∙◌}
 use mathlib.Core.Bool.{Bool, true, false, not}
@@ -9,7 +10,6 @@ use native.Mathlib.Omega.{arith}
 use borrow.Author.Tests.{eq-eqb, ne_eqb, lt-ltb, le-ltb}
 use lib.Dec.{eqb}
 use lib.ListN.{length, drop}
-use Rattle.choice.specs.Pick.{if◌then◌else◌}
 use Rattle.endian.specs.Big.{be64, entries, part}
 use Rattle.endian.proofs.Entries.{length-entries, entries_turn, entries_none}
 use Rattle.qcow2_spec.specs.Header.{version, cluster_size, per_table}

@@ -1,7 +1,6 @@
 -- A sweep over the entries of an L1 table and of the tables below them: how each fares, and the first that fails.
 -- Assumes nothing.
-use Rattle.std.specs.Prelude.{ℕ, suc, ◌+◌, ◌*◌, ◌≤◌, ◌<◌, ◌≡◌, Bool, not, ◌&&◌, List, eqb, ltb, length}
-use Rattle.choice.specs.Pick.{if◌then◌else◌}
+use Rattle.std.specs.Prelude.{ℕ, suc, ◌+◌, ◌*◌, ◌≤◌, ◌<◌, ◌≡◌, Bool, not, ◌&&◌, List, eqb, ltb, length, if◌then◌else◌}
 use Rattle.endian.specs.Big.{be64}
 use Rattle.window.specs.Window.{bit_kind}
 use Rattle.qcow2_spec.specs.Header.{version, cluster_size, per_table}

@@ -1,4 +1,5 @@
 -- The rules of the refcount table's entries, and the numbers one after another, as the code goes through them. Assumes nothing.
+use Rattle.std.specs.Prelude.{if◌then◌else◌}
 use Prim.Native.Nat.{ℕ, zero, suc, ◌+◌, ◌-◌, ◌*◌, ◌/◌, ◌^◌, ◌≤◌}
 use native.Mathlib.Nat.{mul_assoc}
 use mathlib.Core.Path.{◌≡◌, refl, sym, ap}
@@ -7,7 +8,7 @@ use mathlib.Core.List.{List, [], ◌∷◌}
 use lib.Dec.{ltb}
 use lib.ListN.{length, take, drop}
 use borrow.Author.Tests.{ltb-false}
-use Rattle.choice.specs.Pick.{if◌then◌else◌, unless, all}
+use Rattle.choice.specs.Pick.{unless, all}
 use Rattle.choice.proofs.Tests.{if_zero, or-false}
 use Rattle.endian.proofs.Entries.{part-rest, be64-drop}
 use Rattle.qcow2_spec.specs.Header.{least_length, cluster_size, per_table, per_block, table, block_at, blocks, backing_number, snapshot_number, header_number}

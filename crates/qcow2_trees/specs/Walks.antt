@@ -1,7 +1,6 @@
 -- All L1 tables, walked one after another: what is visited, and how far their entries pass.
 -- Assumes nothing.
-use Rattle.std.specs.Prelude.{ℕ, zero, suc, ◌+◌, ◌≤◌, ◌<◌, Bool, true, false, List, ltb}
-use Rattle.choice.specs.Pick.{if◌then◌else◌}
+use Rattle.std.specs.Prelude.{ℕ, zero, suc, ◌+◌, ◌≤◌, ◌<◌, Bool, true, false, List, ltb, if◌then◌else◌}
 use Rattle.tally.specs.States.{table_kind, data_kind, tree_visited}
 use Rattle.qcow2_spec.specs.Header.{root_size}
 use Rattle.qcow2_spec.specs.References.{l1_entries, l1_refs}

@@ -1,7 +1,6 @@
 -- What lies underneath an image, as lists.
 -- Assumes nothing.
-use Rattle.std.specs.Prelude.{ℕ, ◌-◌, Bool, List, ◌++◌, length, replicate}
-use Rattle.choice.specs.Pick.{if◌then◌else◌}
+use Rattle.std.specs.Prelude.{ℕ, ◌-◌, Bool, List, ◌++◌, length, replicate, if◌then◌else◌}
 use Rattle.endian.specs.Big.{part}
 
 -- the n bytes of the run from x on, zeros past its end

@@ -1,12 +1,13 @@
 -- The verdict by the counts and the marks.
 -- Assumes nothing.
+use Rattle.std.specs.Prelude.{if◌then◌else◌}
 use Prim.Native.Nat.{ℕ}
 use mathlib.Core.Path.{◌≡◌, sym, ap, ◌∙◌}
 use mathlib.Core.Bool.{true, false}
 use mathlib.Core.List.{List}
 use lib.Dec.{ltb}
 use lib.ListN.{length}
-use Rattle.choice.specs.Pick.{if◌then◌else◌, first, count}
+use Rattle.choice.specs.Pick.{first, count}
 use Rattle.qcow2_spec.specs.Header.{clusters}
 use Rattle.qcow2_spec.specs.References.{l1_entries}
 use Rattle.qcow2_spec.specs.Check.{or_else, l1_verdict, wrong_marks, shared_at, short, over, counts_verdict}

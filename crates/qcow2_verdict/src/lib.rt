@@ -1,8 +1,8 @@
 // The verdict where no entry is bad: the stored counts against the scratch's figures, and the marks.
 #![tactic(auto)]
 
-ghost use Rattle.std.specs.Prelude.{◌≡◌, true, ◌*◌, ◌≤◌, ltb, length};
-ghost use Rattle.choice.specs.Pick.{if◌then◌else◌, first};
+ghost use Rattle.std.specs.Prelude.{◌≡◌, true, ◌*◌, ◌≤◌, ltb, length, if◌then◌else◌};
+ghost use Rattle.choice.specs.Pick.{first};
 ghost use Rattle.packed_twos.specs.Twos.{figures_in};
 ghost use Rattle.qcow2_spec.specs.Header.{clusters};
 ghost use Rattle.qcow2_spec.specs.References.{l1_entries};

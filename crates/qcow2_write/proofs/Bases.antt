@@ -1,4 +1,5 @@
 -- What the bytes that are lent have for a guest cluster. Assumes nothing.
+use Rattle.std.specs.Prelude.{if◌then◌else◌}
 use Prim.Native.Nat.{ℕ, zero, suc, ◌+◌, ◌-◌, ◌*◌, ◌^◌, ◌≤◌, min}
 use native.Mathlib.Nat.{sub-zero}
 use native.Mathlib.Omega.{arith}
@@ -7,7 +8,7 @@ use mathlib.Core.Bool.{Bool, true, false}
 use mathlib.Core.List.{List, [], ◌∷◌}
 use lib.Dec.{ltb}
 use lib.ListN.{length, drop, replicate, length-take, length-drop}
-use Rattle.choice.specs.Pick.{if◌then◌else◌, each}
+use Rattle.choice.specs.Pick.{each}
 use Rattle.endian.specs.Big.{part, splice}
 use Rattle.units.specs.Units.{cluster}
 use Rattle.fills.specs.Padded.{padded}

@@ -1,8 +1,7 @@
 // A write once the way is found. What it is to store is found before the first store.
 #![tactic(auto)]
 
-ghost use Rattle.std.specs.Prelude.{◌≡◌, ◌+◌, ◌*◌, ◌^◌, ◌≤◌, ◌<◌, [], ◌++◌, length};
-ghost use Rattle.choice.specs.Pick.{if◌then◌else◌};
+ghost use Rattle.std.specs.Prelude.{◌≡◌, ◌+◌, ◌*◌, ◌^◌, ◌≤◌, ◌<◌, [], ◌++◌, length, if◌then◌else◌};
 ghost use Rattle.units.specs.Plan.{units as planned, Done};
 ghost use Rattle.fills.specs.Padded.{padded};
 ghost use Rattle.qcow2_spec.specs.Header.{most_bits, most_reach, most_length};

@@ -1,5 +1,6 @@
 -- Laws of the searches for a flagged cluster. A number's two bytes are turned round in t.
 -- Assumes nothing.
+use Rattle.std.specs.Prelude.{if◌then◌else◌}
 use Prim.Native.Nat.{ℕ, ◌+◌, ◌-◌, ◌*◌, ◌/◌, ◌%◌, ◌≤◌, ◌<◌}
 use native.Mathlib.Omega.{arith}
 use mathlib.Core.Path.{◌≡◌, refl, sym, ap, ◌∙◌}
@@ -10,7 +11,7 @@ use lib.Bits.{bit_or}
 use lib.Dec.{ltb}
 use lib.ListN.{get_or}
 use borrow.Author.Tests.{eq-eqb, ne_eqb, lt-ltb, le-ltb, ltb-true, ltb-false}
-use Rattle.choice.specs.Pick.{if◌then◌else◌, first}
+use Rattle.choice.specs.Pick.{first}
 use Rattle.choice.proofs.Searches.{first_turn, first-none}
 use Rattle.choice.proofs.Runs.{first-high}
 use Rattle.choice.proofs.Found.{first-false}

@@ -1,8 +1,7 @@
 -- Two levels of tables: what their entries refer to, and the first that fails. No image format is known here: when an entry is good, which place it
 -- names and what stands below that place are parameters.
 -- Assumes nothing.
-use Rattle.std.specs.Prelude.{ℕ, suc, Bool, not, List, [], ◌∷◌, eqb}
-use Rattle.choice.specs.Pick.{if◌then◌else◌}
+use Rattle.std.specs.Prelude.{ℕ, suc, Bool, not, List, [], ◌∷◌, eqb, if◌then◌else◌}
 
 -- what a lower entry refers to; a bad one counts for nothing
 abbrev pub lower_refs : (good : ℕ → Bool) → (names : ℕ → List ℕ) → ℕ → List ℕ

@@ -1,5 +1,6 @@
 -- Laws of counting the short and the leaking clusters.
 -- Assumes nothing.
+use Rattle.std.specs.Prelude.{if◌then◌else◌}
 use Prim.Native.Nat.{ℕ, ◌+◌, ◌-◌, ◌≤◌, ◌<◌}
 use mathlib.Core.Path.{◌≡◌, refl, ◌∙◌}
 use mathlib.Core.Bool.{Bool, true, false}
@@ -7,7 +8,7 @@ use native.Mathlib.Nat.{le_antisymm, add-zero, zero-add, add_assoc}
 use native.Mathlib.Omega.{arith}
 use borrow.Author.Tests.{ltb-true, ltb-false, lt-ltb, le-ltb, eqb-true, eqb-false}
 use lib.Dec.{ltb, eqb}
-use Rattle.choice.specs.Pick.{if◌then◌else◌, first, count}
+use Rattle.choice.specs.Pick.{first, count}
 use Rattle.choice.proofs.Searches.{first_turn, count_turn, count_turns, count_most}
 use Rattle.choice.proofs.Runs.{first_miss}
 use Rattle.choice.proofs.Found.{first-false}

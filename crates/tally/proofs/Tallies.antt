@@ -1,4 +1,5 @@
 -- One walk over the fixed places and then the trees in order tells of each cluster whether it is shared and how often it is referred to. Assumes nothing.
+use Rattle.std.specs.Prelude.{if◌then◌else◌}
 use Prim.Native.Nat.{ℕ, zero, suc, ◌+◌, ◌*◌, ◌/◌, ◌%◌, ◌≤◌, ◌<◌, min}
 use native.Mathlib.Nat.{zero-add, add-zero}
 use native.Mathlib.Decide.{ℕ_discrete}
@@ -10,7 +11,7 @@ use lib.Dec.{eqb}
 use lib.ListN.{length, get_or, set, take, drop, replicate, take-append-drop, length-set, length-replicate}
 use lib.Seq.{get_or-set_same, get_or-set_other}
 use borrow.Author.Tests.{eq-eqb, ne_eqb}
-use Rattle.choice.specs.Pick.{if◌then◌else◌, first, each}
+use Rattle.choice.specs.Pick.{first, each}
 use Rattle.choice.proofs.Tests.{true-not-false}
 use Rattle.choice.proofs.Runs.{first_passed}
 use Rattle.endian.specs.Big.{be16, bytes16}

@@ -1,9 +1,9 @@
 -- A scratch in which two bytes of each cluster hold, as one number, how it was reached last and how often: role + 4 * tree + 512 * count. One walk then
 -- tells both its references and whether it is shared (`Roles`). Nothing here knows an image format.
 -- Assumes nothing.
-use Rattle.std.specs.Prelude.{ℕ, zero, suc, ◌+◌, ◌*◌, ◌/◌, ◌%◌, min, Bool, true, false, not, ◌&&◌, List, [], ◌∷◌, ltb, eqb, take, drop}
+use Rattle.std.specs.Prelude.{ℕ, zero, suc, ◌+◌, ◌*◌, ◌/◌, ◌%◌, min, Bool, true, false, not, ◌&&◌, List, [], ◌∷◌, ltb, eqb, take, drop, if◌then◌else◌}
 use Rattle.std.proofs.lemmas.List.Edits.{sets}
-use Rattle.choice.specs.Pick.{if◌then◌else◌, each}
+use Rattle.choice.specs.Pick.{each}
 use Rattle.endian.specs.Big.{be16, bytes16}
 use Rattle.tally.specs.Tally.{wide}
 

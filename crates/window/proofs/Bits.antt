@@ -1,5 +1,6 @@
 -- What a window of bits tells once clusters are visited: bit j is set where cluster b + j was reached, and the lowest that was reached twice is kept.
 -- Assumes nothing.
+use Rattle.std.specs.Prelude.{if◌then◌else◌}
 use Prim.Native.Nat.{ℕ, zero, suc, ◌+◌, ◌-◌, ◌*◌, ◌/◌, ◌%◌, ◌^◌, ◌≤◌, ◌<◌, min}
 use native.Mathlib.Nat.{add-zero, zero-add, le_refl, div-eq_of_lt}
 use native.Mathlib.Decide.{ℕ_discrete, dec_lt}
@@ -11,7 +12,6 @@ use mathlib.Core.List.{List, [], ◌∷◌}
 use lib.Dec.{ltb, eqb}
 use lib.ListN.{length, get_or, take, drop, replicate, length-replicate, take-append-drop}
 use borrow.Author.Tests.{eq-eqb, ne_eqb}
-use Rattle.choice.specs.Pick.{if◌then◌else◌}
 use Rattle.widths.specs.Width.{field, span, number, stored}
 use Rattle.widths.proofs.Fields.{two_pos}
 use Rattle.widths.proofs.Whole.{number-narrow}

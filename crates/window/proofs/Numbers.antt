@@ -1,5 +1,6 @@
 -- A window of numbers is a part of the whole scratch: visits in the window leave what visits to the whole scratch leave there.
 -- Assumes nothing.
+use Rattle.std.specs.Prelude.{if◌then◌else◌}
 use Prim.Native.Nat.{ℕ, suc, ◌+◌, ◌-◌, ◌*◌, ◌/◌, ◌%◌, ◌≤◌, ◌<◌}
 use native.Mathlib.Decide.{dec_lt}
 use native.Mathlib.Omega.{arith}
@@ -10,7 +11,6 @@ use mathlib.Core.List.{List, [], ◌∷◌, ◌++◌}
 use lib.Dec.{ltb}
 use lib.ListN.{length, take, drop, set, replicate, length-drop, length-replicate, replicate-append-replicate}
 use lib.Seq.{length-take-le, take-set-le, take-set-lt, drop-set-lt, drop-set-add, take_all, take_at, drop_at}
-use Rattle.choice.specs.Pick.{if◌then◌else◌}
 use Rattle.endian.specs.Big.{be16, bytes16, part}
 use Rattle.endian.proofs.Laws.{be16-same, part_same}
 use Rattle.tally.specs.States.{step, visited, visit_all, entry_visited, tree_visited}

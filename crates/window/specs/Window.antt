@@ -1,7 +1,6 @@
 -- Clusters visited in a window: only those from b on that there is room for. Two bytes of each hold its number, as in a whole scratch (`States` of tally), or one bit says that it was reached; with bits the lowest cluster that is reached again is kept beside them. Nothing here knows an image format.
 -- Assumes nothing.
-use Rattle.std.specs.Prelude.{ℕ, ◌+◌, ◌-◌, ◌*◌, ◌/◌, ◌≤◌, ◌<◌, min, not, List, [], ◌∷◌, ltb, eqb, length, take, drop}
-use Rattle.choice.specs.Pick.{if◌then◌else◌}
+use Rattle.std.specs.Prelude.{ℕ, ◌+◌, ◌-◌, ◌*◌, ◌/◌, ◌≤◌, ◌<◌, min, not, List, [], ◌∷◌, ltb, eqb, length, take, drop, if◌then◌else◌}
 use Rattle.widths.specs.Width.{number, stored}
 use Rattle.tally.specs.Tally.{occurrences}
 use Rattle.tally.specs.States.{visited}

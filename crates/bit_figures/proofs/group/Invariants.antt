@@ -1,9 +1,6 @@
-use borrow.Author.Rules.{rules}
-use native.Mathlib.Omega.{arith}
 use Prim.Native.Nat.{◌+◌, ◌-◌, ◌*◌, ◌≤◌}
 use mathlib.Core.Path.{◌≡◌}
 use Rattle.bit_figures.specs.Alike.{Alike}
-use Rattle.bit_figures.proofs.Laws.{or-none, alike_none, alike_append}
 use Rattle.bit_figures.proofs.group.Given as goal
 
 abbrev pub invariant-loop-j : goal.invariant-loop-j

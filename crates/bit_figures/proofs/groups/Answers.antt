@@ -1,9 +1,7 @@
-use borrow.Author.Rules.{rules}
 use native.Mathlib.Omega.{arith}
 use Prim.Native.Nat.{◌+◌, ◌-◌, ◌*◌}
 use mathlib.Core.Path.{◌≡◌}
 use mathlib.Core.Bool.{false≢true}
-use Rattle.bit_figures.specs.Alike.{Alike}
 use Rattle.bit_figures.proofs.Laws.{alike_none, alike_less, alike_append}
 use Rattle.bit_figures.proofs.groups.Goals as goal
 

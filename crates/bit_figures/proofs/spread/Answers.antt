@@ -1,4 +1,3 @@
-use borrow.Author.Rules.{rules}
 use Rattle.bit_figures.proofs.Laws.{spread_is}
 use Rattle.bit_figures.proofs.spread.Goals as goal
 

@@ -1,18 +1,15 @@
 use borrow.Author.Rules.{rules}
 use native.Mathlib.Omega.{arith}
-use Prim.Native.Nat.{ℕ, ◌+◌, ◌-◌, ◌≤◌}
+use Prim.Native.Nat.{ℕ, ◌+◌, ◌-◌}
 use mathlib.Core.Path.{◌≡◌, refl, sym, ◌∙◌}
-use lib.ListN.{length, drop}
-use Rattle.choice.specs.Pick.{all}
 use Rattle.endian.proofs.Entries.{part-rest}
-use Rattle.blank.proofs.Zeros.{is_zero, group-next, group_stop}
+use Rattle.blank.proofs.Zeros.{group-next, group_stop}
 use Rattle.blank.proofs.all_clear.Goals as goal
 
 pub loop-at-init : goal.loop-at-init
 loop-at-init c = (search rules, refl)
 
 -- the group's length as the code has it
-
 group : (at : ℕ) → at + 512 - at ≡ 512
 group at = omega arith
 

@@ -1,11 +1,8 @@
-use borrow.Author.Rules.{rules}
-use native.Mathlib.Omega.{arith}
-use Prim.Native.Nat.{ℕ, ◌+◌, ◌-◌, ◌≤◌}
-use mathlib.Core.Path.{◌≡◌, refl, sym, ◌∙◌}
+use Prim.Native.Nat.{◌-◌, ◌≤◌}
+use mathlib.Core.Path.{◌≡◌}
 use lib.ListN.{length, drop}
 use Rattle.choice.specs.Pick.{all}
-use Rattle.endian.proofs.Entries.{part-rest}
-use Rattle.blank.proofs.Zeros.{is_zero, group-next, group_stop}
+use Rattle.blank.proofs.Zeros.{is_zero}
 use Rattle.blank.proofs.all_clear.Given as goal
 
 abbrev pub invariant-loop-at : goal.invariant-loop-at

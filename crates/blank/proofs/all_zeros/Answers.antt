@@ -1,11 +1,8 @@
 use borrow.Author.Rules.{rules}
 use native.Mathlib.Omega.{arith}
-use Prim.Native.Nat.{◌-◌, ◌≤◌}
-use mathlib.Core.Path.{◌≡◌, refl}
-use mathlib.Core.Bool.{◌&&◌}
-use lib.ListN.{length, drop}
-use Rattle.choice.specs.Pick.{all}
-use Rattle.blank.proofs.Zeros.{is_zero, zeros-next, zeros_done}
+use Prim.Native.Nat.{◌-◌}
+use mathlib.Core.Path.{refl}
+use Rattle.blank.proofs.Zeros.{zeros-next, zeros_done}
 use Rattle.blank.proofs.all_zeros.Goals as goal
 
 pub loop-k-init : goal.loop-k-init

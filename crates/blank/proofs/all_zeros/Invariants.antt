@@ -1,11 +1,9 @@
-use borrow.Author.Rules.{rules}
-use native.Mathlib.Omega.{arith}
 use Prim.Native.Nat.{◌-◌, ◌≤◌}
-use mathlib.Core.Path.{◌≡◌, refl}
+use mathlib.Core.Path.{◌≡◌}
 use mathlib.Core.Bool.{◌&&◌}
 use lib.ListN.{length, drop}
 use Rattle.choice.specs.Pick.{all}
-use Rattle.blank.proofs.Zeros.{is_zero, zeros-next, zeros_done}
+use Rattle.blank.proofs.Zeros.{is_zero}
 use Rattle.blank.proofs.all_zeros.Given as goal
 
 abbrev pub invariant-loop-k : goal.invariant-loop-k

@@ -1,4 +1,3 @@
-use borrow.Author.Rules.{rules}
 use mathlib.Core.Path.{ap, ◌∙◌}
 use Rattle.endian.specs.Big.{splice}
 use Rattle.copy.proofs.Laws.{through}

@@ -1,9 +1,8 @@
 use borrow.Author.Rules.{rules}
 use native.Mathlib.Omega.{arith}
-use Prim.Native.Nat.{◌-◌, ◌≤◌}
+use Prim.Native.Nat.{◌-◌}
 use mathlib.Core.Path.{◌≡◌, refl, sym}
-use lib.ListN.{length, take, length-set}
-use Rattle.endian.specs.Big.{splice}
+use lib.ListN.{length-set}
 use Rattle.endian.proofs.Laws.{splice-none}
 use Rattle.copy.proofs.Laws.{more_bytes}
 use Rattle.copy.proofs.plain.Goals as goal

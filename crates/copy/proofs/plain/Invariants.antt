@@ -1,11 +1,7 @@
-use borrow.Author.Rules.{rules}
-use native.Mathlib.Omega.{arith}
 use Prim.Native.Nat.{◌-◌, ◌≤◌}
-use mathlib.Core.Path.{◌≡◌, refl, sym}
-use lib.ListN.{length, take, length-set}
+use mathlib.Core.Path.{◌≡◌}
+use lib.ListN.{length, take}
 use Rattle.endian.specs.Big.{splice}
-use Rattle.endian.proofs.Laws.{splice-none}
-use Rattle.copy.proofs.Laws.{more_bytes}
 use Rattle.copy.proofs.plain.Given as goal
 
 abbrev pub invariant-loop-i : goal.invariant-loop-i

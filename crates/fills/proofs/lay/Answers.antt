@@ -1,4 +1,3 @@
-use borrow.Author.Rules.{rules}
 use native.Mathlib.Omega.{arith}
 use Rattle.fills.proofs.Fills.{laid_base, laid_past}
 use Rattle.fills.proofs.lay.Goals as goal

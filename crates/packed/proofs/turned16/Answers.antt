@@ -1,4 +1,3 @@
-use borrow.Author.Rules.{rules}
 use Rattle.packed.proofs.Turned.{turned2}
 use Rattle.packed.proofs.turned16.Goals as goal
 

@@ -1,4 +1,3 @@
-use borrow.Author.Rules.{rules}
 use Rattle.packed.proofs.Turned.{turned4}
 use Rattle.packed.proofs.turned32.Goals as goal
 

@@ -1,13 +1,7 @@
-use borrow.Author.Rules.{rules}
-use native.Mathlib.Omega.{arith}
-use native.Mathlib.Nat.{mul-add, mul-div-le, mul-le-mul_left, mul-zero, div-le_self}
-use Prim.Native.Nat.{◌+◌, ◌-◌, ◌*◌, ◌/◌, ◌≤◌}
+use Prim.Native.Nat.{◌-◌, ◌*◌, ◌≤◌}
 use mathlib.Core.Path.{◌≡◌}
-use lib.ListN.{length}
 use Rattle.choice.specs.Pick.{count}
-use Rattle.choice.proofs.Searches.{count_most}
 use Rattle.packed.specs.Packed.{unlike_at, under_at}
-use Rattle.packed.proofs.Laws.{count_split}
 use Rattle.packed_figures.proofs.narrow.Given as goal
 
 abbrev pub invariant-loop-k : goal.invariant-loop-k

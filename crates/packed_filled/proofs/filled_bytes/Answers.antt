@@ -1,11 +1,10 @@
 use borrow.Author.Rules.{rules}
 use native.Mathlib.Nat.{mul-zero}
 use native.Mathlib.Omega.{arith}
-use Prim.Native.Nat.{◌+◌, ◌-◌, ◌*◌, ◌^◌, ◌≤◌}
+use Prim.Native.Nat.{◌+◌, ◌-◌}
 use mathlib.Core.Path.{◌≡◌, refl, sym, ap, ap₂, ◌∙◌}
 use lib.ListN.{length}
-use Rattle.choice.specs.Pick.{count}
-use Rattle.packed_filled.specs.Filled.{filled_in, filled_at}
+use Rattle.packed_filled.specs.Filled.{filled_in}
 use Rattle.packed_filled.proofs.Filling.{byte-filled}
 use Rattle.packed_filled.proofs.filled_bytes.Goals as goal
 

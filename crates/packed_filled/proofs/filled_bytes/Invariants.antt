@@ -1,12 +1,8 @@
-use borrow.Author.Rules.{rules}
-use native.Mathlib.Nat.{mul-zero}
-use native.Mathlib.Omega.{arith}
-use Prim.Native.Nat.{◌+◌, ◌-◌, ◌*◌, ◌^◌, ◌≤◌}
-use mathlib.Core.Path.{◌≡◌, refl, sym, ap, ap₂, ◌∙◌}
+use Prim.Native.Nat.{◌-◌, ◌*◌, ◌^◌, ◌≤◌}
+use mathlib.Core.Path.{◌≡◌}
 use lib.ListN.{length}
 use Rattle.choice.specs.Pick.{count}
-use Rattle.packed_filled.specs.Filled.{filled_in, filled_at}
-use Rattle.packed_filled.proofs.Filling.{byte-filled}
+use Rattle.packed_filled.specs.Filled.{filled_at}
 use Rattle.packed_filled.proofs.filled_bytes.Given as goal
 
 abbrev pub invariant-loop-b : goal.invariant-loop-b

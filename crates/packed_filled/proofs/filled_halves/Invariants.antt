@@ -1,11 +1,8 @@
-use borrow.Author.Rules.{rules}
-use native.Mathlib.Omega.{arith}
 use Prim.Native.Nat.{◌+◌, ◌-◌, ◌*◌, ◌≤◌}
 use mathlib.Core.Path.{◌≡◌}
-use lib.ListN.{length, get_or}
+use lib.ListN.{length}
 use Rattle.choice.specs.Pick.{count}
 use Rattle.packed_filled.specs.Filled.{filled_at}
-use Rattle.packed_filled.proofs.Filling.{filled2, byte-filled}
 use Rattle.packed_filled.proofs.filled_halves.Given as goal
 
 abbrev pub invariant-loop-b : goal.invariant-loop-b

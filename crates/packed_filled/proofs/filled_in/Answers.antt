@@ -1,4 +1,3 @@
-use borrow.Author.Rules.{rules}
 use native.Mathlib.Omega.{arith}
 use Prim.Native.Nat.{ℕ, ◌≤◌}
 use mathlib.Core.Path.{◌≡◌, ◌∙◌}
@@ -8,7 +7,6 @@ use Rattle.packed_filled.proofs.Filling.{joined2, filled1, filled-most}
 use Rattle.packed_filled.proofs.filled_in.Goals as goal
 
 -- what the joined bits of x have is what x has, 8 at most
-
 settled : (o q x r : ℕ) → o ≡ q → r ≡ filled_in q x → (r ≡ filled_in o x) × (r ≤ 8)
 settled o q x r e h = (rw e h, rw h (filled-most q x))
 

@@ -1,10 +1,8 @@
 use borrow.Author.Rules.{rules}
 use native.Mathlib.Omega.{arith}
-use Prim.Native.Nat.{◌-◌, ◌≤◌}
+use Prim.Native.Nat.{◌-◌}
 use mathlib.Core.Path.{◌≡◌}
 use lib.ListN.{length}
-use Rattle.choice.specs.Pick.{count}
-use Rattle.packed_filled.specs.Filled.{filled_at}
 use Rattle.packed_filled.proofs.Filling.{whole-filled}
 use Rattle.packed_filled.proofs.filled_whole.Goals as goal
 

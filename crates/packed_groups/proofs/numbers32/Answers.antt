@@ -1,9 +1,7 @@
-use borrow.Author.Rules.{rules}
 use native.Mathlib.Omega.{arith}
 use Prim.Native.Nat.{◌-◌, ◌≤◌}
 use mathlib.Core.Path.{◌≡◌}
 use lib.ListN.{length}
-use Rattle.choice.specs.Pick.{count}
 use Rattle.choice.proofs.Searches.{count_most}
 use Rattle.packed.specs.Packed.{unlike_at, under_at}
 use Rattle.packed.proofs.Laws.{count_split}

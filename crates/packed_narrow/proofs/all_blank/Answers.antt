@@ -1,4 +1,3 @@
-use borrow.Author.Rules.{rules}
 use mathlib.Core.Path.{sym}
 use Rattle.packed_narrow.proofs.Blanks.{first-filled}
 use Rattle.packed_narrow.proofs.all_blank.Goals as goal

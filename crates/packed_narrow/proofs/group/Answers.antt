@@ -1,4 +1,3 @@
-use borrow.Author.Rules.{rules}
 use mathlib.Core.Path.{sym, ◌∙◌}
 use Rattle.packed_narrow.proofs.Blanks.{blank_counted}
 use Rattle.packed_narrow.proofs.group.Goals as goal

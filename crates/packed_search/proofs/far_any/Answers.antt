@@ -1,4 +1,3 @@
-use borrow.Author.Rules.{rules}
 use Rattle.packed_search.proofs.far_any.Goals as goal
 
 pub far_end-requires : goal.far_end-requires

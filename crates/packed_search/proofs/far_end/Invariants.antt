@@ -1,11 +1,7 @@
-use borrow.Author.Rules.{rules}
-use native.Mathlib.Omega.{arith}
-use Prim.Native.Nat.{◌+◌, ◌-◌, ◌*◌, ◌%◌, ◌^◌, ◌≤◌}
-use mathlib.Core.Path.{◌≡◌, refl, sym, ◌∙◌}
+use Prim.Native.Nat.{◌-◌, ◌*◌, ◌%◌, ◌^◌, ◌≤◌}
+use mathlib.Core.Path.{◌≡◌}
 use Rattle.choice.specs.Pick.{first}
 use Rattle.packed.specs.Packed.{zero_at}
-use Rattle.packed.proofs.Laws.{lie_few}
-use Rattle.packed_search.proofs.Groups.{lie_fewer, group-next, group_missed}
 use Rattle.packed_search.proofs.far_end.Given as goal
 
 abbrev pub invariant-loop-k : goal.invariant-loop-k

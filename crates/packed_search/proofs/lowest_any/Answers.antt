@@ -1,4 +1,3 @@
-use borrow.Author.Rules.{rules}
 use Rattle.packed_search.proofs.Groups.{eighth_whole}
 use Rattle.packed_search.proofs.lowest_any.Goals as goal
 

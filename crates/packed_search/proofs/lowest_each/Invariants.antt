@@ -1,13 +1,7 @@
-use borrow.Author.Rules.{rules}
-use native.Mathlib.Omega.{arith}
-use Prim.Native.Nat.{ℕ, ◌+◌, ◌-◌, ◌*◌, ◌^◌, ◌≤◌}
-use mathlib.Core.Path.{◌≡◌, refl, sym, ap, ◌∙◌}
-use mathlib.Core.Bool.{true, false}
-use borrow.Author.Tests.{eq-eqb, ne_eqb}
+use Prim.Native.Nat.{◌-◌, ◌≤◌}
+use mathlib.Core.Path.{◌≡◌}
 use Rattle.choice.specs.Pick.{first}
-use Rattle.choice.proofs.Searches.{first_turn, first-none}
-use Rattle.packed.specs.Packed.{packed, zero_at}
-use Rattle.packed.proofs.Laws.{lie_inside, lie_place}
+use Rattle.packed.specs.Packed.{zero_at}
 use Rattle.packed_search.proofs.lowest_each.Given as goal
 
 abbrev pub invariant-loop-k : goal.invariant-loop-k

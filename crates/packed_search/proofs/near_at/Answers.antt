@@ -1,4 +1,3 @@
-use borrow.Author.Rules.{rules}
 use mathlib.Core.Path.{refl}
 use Rattle.packed.proofs.Parts.{part_of}
 use Rattle.packed_search.proofs.near_at.Goals as goal

@@ -1,12 +1,10 @@
 use borrow.Author.Rules.{rules}
 use native.Mathlib.Omega.{arith}
-use Prim.Native.Nat.{◌-◌, ◌≤◌}
+use Prim.Native.Nat.{◌-◌}
 use mathlib.Core.Path.{◌≡◌, refl, sym, ◌∙◌}
 use mathlib.Core.Bool.{true}
-use Rattle.choice.specs.Pick.{count}
 use Rattle.widths.proofs.Cells.{Small}
-use Rattle.packed.specs.Packed.{unlike_at, under_at}
-use Rattle.packed_twos.specs.Twos.{twos, many}
+use Rattle.packed_twos.specs.Twos.{many}
 use Rattle.packed_sixteen.proofs.Told.{alike_next}
 use Rattle.packed_sixteen.proofs.alike16.Goals as goal
 

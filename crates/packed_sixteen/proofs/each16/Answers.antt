@@ -1,8 +1,7 @@
-use borrow.Author.Rules.{rules}
+use Rattle.std.specs.Prelude.{if◌then◌else◌}
 use native.Mathlib.Omega.{arith}
-use Prim.Native.Nat.{◌-◌, ◌≤◌}
+use Prim.Native.Nat.{◌-◌}
 use mathlib.Core.Path.{◌≡◌}
-use Rattle.choice.specs.Pick.{if◌then◌else◌, count}
 use Rattle.widths.proofs.Cells.{Small}
 use Rattle.packed.specs.Packed.{unlike_at, under_at}
 use Rattle.packed.proofs.Laws.{count_next}

@@ -1,13 +1,8 @@
-use borrow.Author.Rules.{rules}
-use native.Mathlib.Omega.{arith}
 use Prim.Native.Nat.{◌-◌, ◌≤◌}
 use mathlib.Core.Path.{◌≡◌}
-use Rattle.choice.specs.Pick.{if◌then◌else◌, count}
-use Rattle.widths.proofs.Cells.{Small}
+use Rattle.choice.specs.Pick.{count}
 use Rattle.packed.specs.Packed.{unlike_at, under_at}
-use Rattle.packed.proofs.Laws.{count_next}
-use Rattle.packed_twos.specs.Twos.{twos, many}
-use Rattle.packed_sixteen.proofs.Told.{unlike_told, under-told}
+use Rattle.packed_twos.specs.Twos.{twos}
 use Rattle.packed_sixteen.proofs.each16.Given as goal
 
 abbrev pub invariant-loop-j : goal.invariant-loop-j

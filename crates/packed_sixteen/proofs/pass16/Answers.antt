@@ -1,20 +1,16 @@
+use Rattle.std.specs.Prelude.{if◌then◌else◌}
 use borrow.Author.Rules.{rules}
 use native.Mathlib.Omega.{arith}
 use native.Mathlib.Nat.{zero-add}
-use Prim.Native.Nat.{ℕ, ◌+◌, ◌-◌, ◌≤◌, ◌<◌}
+use Prim.Native.Nat.{ℕ, ◌+◌, ◌-◌, ◌<◌}
 use mathlib.Core.Path.{◌≡◌, refl, ◌∙◌}
-use mathlib.Core.Bool.{Bool, not, ◌&&◌}
-use mathlib.Core.List.{List}
-use lib.Dec.{eqb}
-use Rattle.choice.specs.Pick.{if◌then◌else◌, count}
 use Rattle.choice.proofs.Searches.{count_same}
 use Rattle.widths.proofs.Cells.{Small}
 use Rattle.packed.specs.Packed.{unlike_at, under_at}
 use Rattle.packed.proofs.Laws.{count_next}
 use Rattle.packed_twos.specs.Twos.{twos, many}
-use Rattle.packed_twos.proofs.Seen.{loaded}
 use Rattle.packed_sixteen.proofs.Told.{unlike_told, zero-told}
-use Rattle.packed_twos.proofs.Seen.{Among, among_next, figure_one}
+use Rattle.packed_twos.proofs.Seen.{among_next, figure_one}
 use Rattle.packed_sixteen.proofs.pass16.Invariants.{zero_at}
 use Rattle.packed_sixteen.proofs.pass16.Goals as goal
 

@@ -1,20 +1,13 @@
-use borrow.Author.Rules.{rules}
-use native.Mathlib.Omega.{arith}
-use native.Mathlib.Nat.{zero-add}
-use Prim.Native.Nat.{ℕ, ◌+◌, ◌-◌, ◌≤◌, ◌<◌}
-use mathlib.Core.Path.{◌≡◌, refl, ◌∙◌}
+use Prim.Native.Nat.{ℕ, ◌-◌, ◌≤◌}
+use mathlib.Core.Path.{◌≡◌}
 use mathlib.Core.Bool.{Bool, not, ◌&&◌}
 use mathlib.Core.List.{List}
 use lib.Dec.{eqb}
-use Rattle.choice.specs.Pick.{if◌then◌else◌, count}
-use Rattle.choice.proofs.Searches.{count_same}
-use Rattle.widths.proofs.Cells.{Small}
-use Rattle.packed.specs.Packed.{unlike_at, under_at}
-use Rattle.packed.proofs.Laws.{count_next}
-use Rattle.packed_twos.specs.Twos.{twos, many}
+use Rattle.choice.specs.Pick.{count}
+use Rattle.packed.specs.Packed.{unlike_at}
+use Rattle.packed_twos.specs.Twos.{twos}
 use Rattle.packed_twos.proofs.Seen.{loaded}
-use Rattle.packed_sixteen.proofs.Told.{unlike_told, zero-told}
-use Rattle.packed_twos.proofs.Seen.{Among, among_next, figure_one}
+use Rattle.packed_twos.proofs.Seen.{Among}
 use Rattle.packed_sixteen.proofs.pass16.Given as goal
 
 abbrev pub zero_at : (B F : List ℕ) → ℕ → Bool

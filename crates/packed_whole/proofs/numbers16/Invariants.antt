@@ -1,12 +1,7 @@
-use borrow.Author.Rules.{rules}
-use native.Mathlib.Omega.{arith}
 use Prim.Native.Nat.{◌-◌, ◌≤◌}
 use mathlib.Core.Path.{◌≡◌}
-use lib.ListN.{length}
-use Rattle.choice.specs.Pick.{if◌then◌else◌, count}
+use Rattle.choice.specs.Pick.{count}
 use Rattle.packed.specs.Packed.{unlike_at, under_at}
-use Rattle.packed.proofs.Laws.{count_next}
-use Rattle.packed_whole.proofs.Told.{told16}
 use Rattle.packed_whole.proofs.numbers16.Given as goal
 
 abbrev pub invariant-loop-j : goal.invariant-loop-j

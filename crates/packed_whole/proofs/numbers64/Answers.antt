@@ -1,9 +1,8 @@
-use borrow.Author.Rules.{rules}
+use Rattle.std.specs.Prelude.{if◌then◌else◌}
 use native.Mathlib.Omega.{arith}
-use Prim.Native.Nat.{◌-◌, ◌≤◌}
+use Prim.Native.Nat.{◌-◌}
 use mathlib.Core.Path.{◌≡◌}
 use lib.ListN.{length}
-use Rattle.choice.specs.Pick.{if◌then◌else◌, count}
 use Rattle.packed.specs.Packed.{unlike_at, under_at}
 use Rattle.packed.proofs.Laws.{count_next}
 use Rattle.packed_whole.proofs.Told.{told64}

@@ -1,4 +1,3 @@
-use borrow.Author.Rules.{rules}
 use Rattle.packed_wide.proofs.compare.Goals as goal
 
 pub numbers16-requires : goal.numbers16-requires

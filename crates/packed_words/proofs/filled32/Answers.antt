@@ -1,8 +1,7 @@
-use borrow.Author.Rules.{rules}
+use Rattle.std.specs.Prelude.{if◌then◌else◌}
 use native.Mathlib.Omega.{arith}
-use Prim.Native.Nat.{◌+◌, ◌-◌, ◌*◌, ◌≤◌}
+use Prim.Native.Nat.{◌+◌, ◌-◌, ◌*◌}
 use mathlib.Core.Path.{◌≡◌}
-use Rattle.choice.specs.Pick.{if◌then◌else◌, count}
 use Rattle.packed.specs.Lanes.{lanes, bytes_at}
 use Rattle.packed_filled.specs.Filled.{filled_at}
 use Rattle.packed_words.proofs.Words.{filled-told}

@@ -1,12 +1,7 @@
-use borrow.Author.Rules.{rules}
-use native.Mathlib.Omega.{arith}
-use Prim.Native.Nat.{◌+◌, ◌-◌, ◌*◌, ◌≤◌}
+use Prim.Native.Nat.{◌-◌, ◌≤◌}
 use mathlib.Core.Path.{◌≡◌}
-use Rattle.choice.specs.Pick.{if◌then◌else◌, count}
-use Rattle.packed.specs.Lanes.{lanes, bytes_at}
+use Rattle.choice.specs.Pick.{count}
 use Rattle.packed_filled.specs.Filled.{filled_at}
-use Rattle.packed_words.proofs.Words.{filled-told}
-use Rattle.packed_words.proofs.Words.{count-more}
 use Rattle.packed_words.proofs.filled32.Given as goal
 
 abbrev pub invariant-loop-j : goal.invariant-loop-j

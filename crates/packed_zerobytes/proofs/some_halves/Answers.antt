@@ -1,13 +1,7 @@
-use borrow.Author.Rules.{rules}
 use native.Mathlib.Omega.{arith}
-use Prim.Native.Nat.{◌-◌, ◌*◌, ◌≤◌}
+use Prim.Native.Nat.{◌-◌}
 use mathlib.Core.Path.{◌≡◌, refl}
-use mathlib.Core.Bool.{◌||◌}
-use lib.Dec.{eqb, ltb}
 use borrow.Author.Tests.{eq-eqb, ne_eqb}
-use Rattle.packed_zerowords.specs.Found.{some}
-use Rattle.packed_zerobytes.specs.Holds.{per}
-use Rattle.packed.specs.Packed.{zero_at}
 use Rattle.packed_zerobytes.proofs.Holding.{half-next}
 use Rattle.packed_zerobytes.proofs.some_halves.Goals as goal
 

@@ -1,12 +1,9 @@
-use borrow.Author.Rules.{rules}
 use native.Mathlib.Nat.{mul-zero}
 use native.Mathlib.Omega.{arith}
-use Prim.Native.Nat.{ℕ, ◌-◌, ◌*◌, ◌≤◌}
+use Prim.Native.Nat.{ℕ, ◌-◌}
 use mathlib.Core.Path.{◌≡◌, refl, sym, ap₂, ◌∙◌}
 use mathlib.Core.Bool.{Bool, ◌||◌}
-use Rattle.packed_zerowords.specs.Found.{some}
-use Rattle.packed_zerobytes.specs.Holds.{per, holds}
-use Rattle.packed.specs.Packed.{zero_at}
+use Rattle.packed_zerobytes.specs.Holds.{holds}
 use Rattle.packed_zerobytes.proofs.Holding.{byte_next}
 use Rattle.packed_zerobytes.proofs.some_in_bytes.Goals as goal
 

@@ -1,9 +1,7 @@
-use borrow.Author.Rules.{rules}
 use native.Mathlib.Omega.{arith}
-use Prim.Native.Nat.{ℕ, ◌-◌, ◌≤◌}
+use Prim.Native.Nat.{ℕ, ◌-◌}
 use mathlib.Core.Path.{◌≡◌, refl, ap, ◌∙◌}
 use lib.Dec.{eqb}
-use Rattle.packed_zerowords.specs.Found.{some}
 use Rattle.packed.specs.Packed.{zero_at}
 use Rattle.packed_zerowords.proofs.Wholes.{zero32, some_next}
 use Rattle.packed_zerowords.proofs.some32.Goals as goal

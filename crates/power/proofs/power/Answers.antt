@@ -3,7 +3,6 @@ use Prim.Native.Nat.{◌*◌, ◌%◌, ◌^◌}
 use mathlib.Core.Path.{◌≡◌}
 use lib.Pow.{pow_pos, pow_mono}
 use Rattle.power.proofs.Laws.{one_shl}
-use borrow.Author.Rules.{rules}
 use Rattle.power.proofs.power.Goals as goal
 
 pub returns : goal.returns

@@ -1,6 +1,5 @@
 use mathlib.Core.Path.{refl}
 use lib.Pow.{shr_le}
-use borrow.Author.Rules.{rules}
 use Rattle.power.proofs.quotient.Goals as goal
 
 pub returns : goal.returns

@@ -4,7 +4,6 @@ use native.Mathlib.Nat.{mod-lt}
 use native.Mathlib.Omega.{arith}
 use lib.Bits.{bit_and, and_mask}
 use lib.Pow.{pow_pos}
-use borrow.Author.Rules.{rules}
 use Rattle.power.proofs.rest.Goals as goal
 
 pub returns : goal.returns

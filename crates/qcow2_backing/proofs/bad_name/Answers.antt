@@ -1,4 +1,3 @@
-use borrow.Author.Rules.{rules}
 use borrow.Author.Tests.{lt-ltb, ltb-true, ltb-false}
 use native.Mathlib.Omega.{arith}
 use Prim.Native.Nat.{ℕ, ◌+◌, ◌-◌}
@@ -10,7 +9,6 @@ use Rattle.qcow2_spec.specs.Header.{backing_offset, name_length, bad_name}
 use Rattle.qcow2_backing.proofs.bad_name.Goals as goal
 
 -- l bytes at a run past n
-
 past_is : (n a l : ℕ) → (ltb n a || ltb (n - a) l) ≡ ltb n (a + l)
 past_is n a l = go (ltb n a) refl
   where

@@ -1,4 +1,3 @@
-use native.Mathlib.Omega.{arith}
 use Rattle.qcow2_spec.specs.Header.{backing_offset}
 use Rattle.qcow2_backing.proofs.name_at.Goals as goal
 

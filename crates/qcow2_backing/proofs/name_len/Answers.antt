@@ -1,5 +1,3 @@
-use borrow.Author.Rules.{rules}
-use native.Mathlib.Omega.{arith}
 use Rattle.qcow2_spec.specs.Header.{name_length}
 use Rattle.qcow2_backing.specs.Backing.{shown_length}
 use Rattle.qcow2_backing.proofs.name_len.Goals as goal

@@ -1,4 +1,3 @@
-use borrow.Author.Rules.{rules}
 use Rattle.qcow2_counts.proofs.block_of.Goals as goal
 
 pub returns : goal.returns

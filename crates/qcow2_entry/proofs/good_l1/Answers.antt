@@ -2,7 +2,6 @@ use native.Mathlib.Omega.{arith}
 use Prim.Native.Nat.{◌/◌, ◌%◌, ◌^◌}
 use borrow.Author.Tests.{eq-eqb, ne_eqb}
 use Rattle.qcow2_spec.specs.Entries.{good_l1}
-use borrow.Author.Rules.{rules}
 use Rattle.qcow2_entry.proofs.good_l1.Goals as goal
 
 pub returns-then-e-ne0 : goal.returns-then-e-ne0

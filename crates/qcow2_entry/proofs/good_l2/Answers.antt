@@ -5,7 +5,6 @@ use mathlib.Core.Bool.{true, false, not, ◌||◌}
 use borrow.Author.Tests.{eq-eqb, ne_eqb}
 use lib.Dec.{eqb}
 use Rattle.qcow2_spec.specs.Entries.{good_l2, compressed, zero_mark}
-use borrow.Author.Rules.{rules}
 use Rattle.qcow2_entry.proofs.good_l2.Goals as goal
 
 pub returns-then-is_compressed : goal.returns-then-is_compressed

@@ -1,7 +1,6 @@
 use mathlib.Core.Path.{◌≡◌}
 use mathlib.Core.Bool.{true, false}
 use Rattle.qcow2_spec.specs.Entries.{zero_mark}
-use borrow.Author.Rules.{rules}
 use Rattle.qcow2_entry.proofs.good_mark.Goals as goal
 
 pub returns-then-has_mark : goal.returns-then-has_mark

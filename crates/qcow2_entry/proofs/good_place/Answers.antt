@@ -6,7 +6,6 @@ use borrow.Author.Tests.{ltb-true, ltb-false}
 use lib.Dec.{ltb}
 use Rattle.qcow2_spec.specs.Entries.{place}
 use Rattle.qcow2_entry.proofs.Laws.{place_none, place-odd, place-past, place_in}
-use borrow.Author.Rules.{rules}
 use Rattle.qcow2_entry.proofs.good_place.Goals as goal
 
 pub returns-then-p-eq0 : goal.returns-then-p-eq0

@@ -1,4 +1,3 @@
-use borrow.Author.Rules.{rules}
 use native.Mathlib.Omega.{arith}
 use Rattle.qcow2_spec.proofs.Facts.{counts_power}
 use Rattle.qcow2_fields.proofs.block_count.Goals as goal

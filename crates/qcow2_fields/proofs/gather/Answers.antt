@@ -1,4 +1,3 @@
-use borrow.Author.Rules.{rules}
 use native.Mathlib.Omega.{arith}
 use Rattle.qcow2_spec.specs.Header.{version, clusters, cluster_size, disk_size, l1_size, l1_at, table_at, table_clusters, width, blocks, per_block, snapshots, snapshots_at, root_size, root_at, backed, backing_offset}
 use Rattle.qcow2_spec.specs.Guest.{reach}

@@ -4,7 +4,6 @@ use mathlib.Core.Bool.{true, false}
 use borrow.Author.Tests.{eq-eqb, ne_eqb}
 use Rattle.qcow2_spec.specs.Entries.{place, zero_mark}
 use Rattle.qcow2_spec.specs.Guest.{entry_gives}
-use borrow.Author.Rules.{rules}
 use Rattle.qcow2_found.proofs.gives.Goals as goal
 
 pub returns-then-has_mark : goal.returns-then-has_mark

@@ -4,7 +4,6 @@ use mathlib.Core.Bool.{true, false}
 use Rattle.endian.specs.Big.{be64}
 use Rattle.qcow2_spec.specs.Entries.{compressed, good_l2}
 use Rattle.qcow2_spec.specs.Guest.{entry_way}
-use borrow.Author.Rules.{rules}
 use Rattle.qcow2_found.proofs.way_in.Goals as goal
 
 pub returns-then-is_compressed : goal.returns-then-is_compressed

@@ -1,7 +1,6 @@
 use native.Mathlib.Omega.{arith}
 use mathlib.Core.Path.{◌∙◌}
 use Rattle.qcow2_guest.proofs.Steps.{row_in, row-entry}
-use borrow.Author.Rules.{rules}
 use Rattle.qcow2_guest.proofs.l1_entry.Goals as goal
 
 pub overflow_mul-i : goal.overflow_mul-i

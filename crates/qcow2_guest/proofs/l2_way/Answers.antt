@@ -2,7 +2,6 @@ use Prim.Native.Nat.{◌+◌, ◌-◌, ◌^◌}
 use native.Mathlib.Omega.{arith}
 use mathlib.Core.Path.{◌≡◌, ◌∙◌}
 use Rattle.qcow2_guest.proofs.Steps.{table-entry}
-use borrow.Author.Rules.{rules}
 use Rattle.qcow2_guest.proofs.l2_way.Goals as goal
 
 pub returns : goal.returns

@@ -1,4 +1,3 @@
-use borrow.Author.Rules.{rules}
 use native.Mathlib.Omega.{arith}
 use native.Mathlib.Nat.{mul-le-mul, one-mul, mul-le-mul_right}
 use Prim.Native.Nat.{ℕ, ◌-◌, ◌*◌, ◌≤◌}
@@ -12,7 +11,6 @@ overflow_mul-room c =
     omega (arith, mul-le-mul h k)
 
 -- at least one entry is left
-
 room : (n C r : ℕ) → 1 ≤ n → r ≤ C → r ≤ n * C
 room n C r h l = omega (arith, mul-le-mul_right C h, one-mul C)
 

@@ -2,7 +2,6 @@ use native.Mathlib.Omega.{arith}
 use mathlib.Core.Path.{◌≡◌, sym, ◌∙◌}
 use Rattle.qcow2_spec.specs.Entries.{place}
 use Rattle.qcow2_guest.proofs.Steps.{table_in, way-bad, way-none, way-some}
-use borrow.Author.Rules.{rules}
 use Rattle.qcow2_guest.proofs.way_to.Goals as goal
 
 pub l1_entry-e-requires : goal.l1_entry-e-requires

@@ -1,4 +1,3 @@
-use borrow.Author.Rules.{rules}
 use borrow.Author.Tests.{lt-ltb, le-ltb}
 use native.Mathlib.Omega.{arith}
 use native.Mathlib.Nat.{mul-le-mul}
@@ -18,7 +17,6 @@ unfolding oversize
 returns-then-g-gt-MOST_L1 c = rw (le-ltb _ _ c.if-g-gt-MOST_SIZE.false, lt-ltb most_l1 _ c.if-g-gt-MOST_L1.true)
 
 -- the entries are few by now, so neither product wraps
-
 eighth : (b p : ℕ) → b ≤ most_bits → p ≡ 2 ^ b → p / 8 ≤ 2 ^ most_bits / 8
 eighth b p h e = omega (arith, pow_mono h)
 

@@ -1,13 +1,9 @@
-use borrow.Author.Rules.{rules}
-use native.Mathlib.Omega.{arith}
 use Prim.Native.Nat.{ℕ, ◌+◌, ◌-◌, ◌*◌, ◌≤◌, ◌<◌}
-use mathlib.Core.Path.{◌≡◌, refl, ap, ◌∙◌}
-use mathlib.Core.Logic.{inl, inr}
-use lib.ListN.{length, get_or, length-set}
+use mathlib.Core.Path.{◌≡◌}
+use lib.ListN.{length, get_or}
 use Rattle.choice.specs.Pick.{count}
 use Rattle.endian.specs.Big.{be64}
 use Rattle.qcow2_noted.specs.Noting.{mark_of, unmade}
-use Rattle.qcow2_noted.proofs.Marks.{mark_next, mark_most, count_next}
 use Rattle.qcow2_noted.proofs.note.Given as goal
 
 abbrev pub invariant-loop-k : goal.invariant-loop-k

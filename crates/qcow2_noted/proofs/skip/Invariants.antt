@@ -1,13 +1,6 @@
-use borrow.Author.Rules.{rules}
-use borrow.Author.Tests.{ne_eqb}
-use native.Mathlib.Omega.{arith}
-use Prim.Native.Nat.{◌+◌, ◌-◌, ◌*◌, ◌≤◌}
-use mathlib.Core.Path.{◌≡◌, refl, ◌∙◌}
-use mathlib.Core.Bool.{false}
-use lib.Dec.{eqb}
+use Prim.Native.Nat.{◌-◌, ◌≤◌}
+use mathlib.Core.Path.{◌≡◌}
 use Rattle.choice.specs.Pick.{first}
-use Rattle.choice.proofs.Searches.{first_turn}
-use Rattle.endian.specs.Big.{be64}
 use Rattle.qcow2_noted.specs.Noting.{unmade}
 use Rattle.qcow2_noted.proofs.skip.Given as goal
 

@@ -1,4 +1,4 @@
-use Rattle.std.proofs.Common.{rules, eq-eqb, ne_eqb}
+use Rattle.std.proofs.Common.{eq-eqb, ne_eqb}
 use Rattle.qcow2_plain.specs.Plain.{bare, plain, marked}
 use Rattle.qcow2_plain.proofs.is_marked.Goals as goal
 

@@ -1,8 +1,8 @@
 use borrow.Author.Rules.{rules}
 use native.Mathlib.Omega.{arith}
-use Prim.Native.Nat.{ℕ, ◌-◌, ◌≤◌}
+use Prim.Native.Nat.{ℕ, ◌-◌}
 use mathlib.Core.Path.{◌≡◌, ap, ◌∙◌}
-use Rattle.qcow2_spec.specs.Header.{entry_end, snapshot_at}
+use Rattle.qcow2_spec.specs.Header.{entry_end}
 use Rattle.qcow2_snapshots.proofs.Laws.{snapshot_first, snapshot_next}
 use Rattle.qcow2_snapshots.proofs.Roots.{entry-inside}
 use Rattle.qcow2_snapshots.proofs.place_of.Goals as goal

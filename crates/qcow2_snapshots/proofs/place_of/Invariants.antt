@@ -1,10 +1,6 @@
-use borrow.Author.Rules.{rules}
-use native.Mathlib.Omega.{arith}
-use Prim.Native.Nat.{ℕ, ◌-◌, ◌≤◌}
-use mathlib.Core.Path.{◌≡◌, ap, ◌∙◌}
-use Rattle.qcow2_spec.specs.Header.{entry_end, snapshot_at}
-use Rattle.qcow2_snapshots.proofs.Laws.{snapshot_first, snapshot_next}
-use Rattle.qcow2_snapshots.proofs.Roots.{entry-inside}
+use Prim.Native.Nat.{◌-◌, ◌≤◌}
+use mathlib.Core.Path.{◌≡◌}
+use Rattle.qcow2_spec.specs.Header.{snapshot_at}
 use Rattle.qcow2_snapshots.proofs.place_of.Given as goal
 
 abbrev pub invariant-loop-i : goal.invariant-loop-i

@@ -1,7 +1,6 @@
 use native.Mathlib.Omega.{arith}
 use mathlib.Core.Path.{sym, ◌∙◌}
 use Rattle.qcow2_spec.proofs.Facts.{facts, root-count}
-use borrow.Author.Rules.{rules}
 use Rattle.qcow2_snapshots.proofs.root_at.Goals as goal
 
 pub returns-then-t-eq0 : goal.returns-then-t-eq0

@@ -2,7 +2,6 @@ use borrow.Author.Tests.{eq-eqb, ne_eqb}
 use native.Mathlib.Omega.{arith}
 use Prim.Native.Nat.{◌%◌, ◌^◌}
 use Rattle.qcow2_spec.specs.Header.{snapshot_number}
-use borrow.Author.Rules.{rules}
 use Rattle.qcow2_snapshots.proofs.snapshot_number.Goals as goal
 
 pub returns-then-count-eq0 : goal.returns-then-count-eq0

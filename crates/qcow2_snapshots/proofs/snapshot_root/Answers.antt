@@ -5,7 +5,6 @@ use lib.ListN.{length}
 use Rattle.endian.specs.Big.{be32, be64}
 use Rattle.qcow2_spec.specs.Header.{snapshot_at}
 use Rattle.qcow2_snapshots.proofs.Roots.{entry-inside, reach-small, root_opened}
-use borrow.Author.Rules.{rules}
 use Rattle.qcow2_snapshots.proofs.snapshot_root.Goals as goal
 use Rattle.qcow2_snapshots.proofs.snapshot_root.Goals.{After-place_of-at, After-load32-l1size}
 

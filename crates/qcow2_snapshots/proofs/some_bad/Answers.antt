@@ -1,6 +1,6 @@
 use borrow.Author.Rules.{rules}
 use native.Mathlib.Omega.{arith}
-use Prim.Native.Nat.{ℕ, ◌-◌, ◌^◌, ◌≤◌}
+use Prim.Native.Nat.{ℕ, ◌-◌, ◌^◌}
 use mathlib.Core.Path.{◌≡◌, sym, ap, ◌∙◌}
 use mathlib.Core.Bool.{Bool}
 use mathlib.Core.List.{List}
@@ -17,7 +17,6 @@ loop-k-init c =
     (search rules, (c.requires.1.1 ∙ snapshot_first a.image.now, ap (first (bad_snapshot a.image.now) 0) e))
 
 -- what is told of entry k
-
 told : (C : ℕ) (s : List ℕ) (k p : ℕ) (r b : Bool) → cluster_size s ≡ C → p ≡ snapshot_at s k → r ≡ bad_entry C s p → r ≡ b → bad_snapshot s k ≡ b
 told C s k p r b c e f h = snapshot_bad C s k c ∙ rw e at (sym f ∙ h)
 

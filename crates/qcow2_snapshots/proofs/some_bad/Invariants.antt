@@ -1,13 +1,7 @@
-use borrow.Author.Rules.{rules}
-use native.Mathlib.Omega.{arith}
-use Prim.Native.Nat.{ℕ, ◌-◌, ◌^◌, ◌≤◌}
-use mathlib.Core.Path.{◌≡◌, sym, ap, ◌∙◌}
-use mathlib.Core.Bool.{Bool}
-use mathlib.Core.List.{List}
+use Prim.Native.Nat.{◌-◌, ◌≤◌}
+use mathlib.Core.Path.{◌≡◌}
 use Rattle.choice.specs.Pick.{first}
-use Rattle.qcow2_spec.specs.Header.{cluster_size, entry_end, snapshot_at, bad_snapshot}
-use Rattle.qcow2_snapshots.specs.Entry.{bad_entry}
-use Rattle.qcow2_snapshots.proofs.Laws.{entry_read, snapshot_first, snapshot_next, snapshot_bad, search_next, search_stop, search_done}
+use Rattle.qcow2_spec.specs.Header.{snapshot_at, bad_snapshot}
 use Rattle.qcow2_snapshots.proofs.some_bad.Given as goal
 
 abbrev pub invariant-loop-k : goal.invariant-loop-k

@@ -3,7 +3,6 @@ use Prim.Native.Nat.{◌+◌, ◌-◌}
 use mathlib.Core.Path.{◌≡◌, refl, ◌∙◌}
 use lib.ListN.{length}
 use Rattle.qcow2_under.proofs.Laws.{lent_none, lent_some}
-use borrow.Author.Rules.{rules}
 use Rattle.qcow2_under.proofs.put_lent.Goals as goal
 
 pub returns-then-len-x : goal.returns-then-len-x

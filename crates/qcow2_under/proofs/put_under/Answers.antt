@@ -3,7 +3,6 @@ use lib.ListN.{length, replicate, length-replicate}
 use Rattle.choice.proofs.Tests.{if_yes, if_no}
 use Rattle.endian.proofs.Laws.{splice-whole}
 use Rattle.qcow2_under.specs.Under.{under_bytes}
-use borrow.Author.Rules.{rules}
 use Rattle.qcow2_under.proofs.put_under.Goals as goal
 
 pub returns-then-backed : goal.returns-then-backed

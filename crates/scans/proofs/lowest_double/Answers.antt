@@ -1,4 +1,3 @@
-use borrow.Author.Rules.{rules}
 use Rattle.scans.proofs.lowest_double.Goals as goal
 
 pub returns : goal.returns

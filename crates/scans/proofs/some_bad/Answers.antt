@@ -1,10 +1,8 @@
 use borrow.Author.Rules.{rules}
 use native.Mathlib.Omega.{arith}
-use Prim.Native.Nat.{ℕ, ◌-◌, ◌≤◌}
-use mathlib.Core.Path.{◌≡◌, ap}
-use mathlib.Core.Bool.{false, ◌||◌}
-use lib.Dec.{ltb}
-use Rattle.choice.specs.Pick.{first}
+use Prim.Native.Nat.{ℕ, ◌-◌}
+use mathlib.Core.Path.{ap}
+use mathlib.Core.Bool.{false}
 use Rattle.tally.specs.States.{flag, flag_at}
 use Rattle.scans.proofs.Flags.{some_first, some_next, some_done}
 use Rattle.scans.proofs.some_bad.Goals as goal

@@ -1,12 +1,9 @@
-use borrow.Author.Rules.{rules}
-use native.Mathlib.Omega.{arith}
-use Prim.Native.Nat.{ℕ, ◌-◌, ◌≤◌}
-use mathlib.Core.Path.{◌≡◌, ap}
+use Prim.Native.Nat.{◌-◌, ◌≤◌}
+use mathlib.Core.Path.{◌≡◌}
 use mathlib.Core.Bool.{false, ◌||◌}
 use lib.Dec.{ltb}
 use Rattle.choice.specs.Pick.{first}
-use Rattle.tally.specs.States.{flag, flag_at}
-use Rattle.scans.proofs.Flags.{some_first, some_next, some_done}
+use Rattle.tally.specs.States.{flag_at}
 use Rattle.scans.proofs.some_bad.Given as goal
 
 abbrev pub invariant-loop-k : goal.invariant-loop-k

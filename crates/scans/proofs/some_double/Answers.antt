@@ -1,9 +1,9 @@
 use borrow.Author.Rules.{rules}
 use native.Mathlib.Omega.{arith}
-use Prim.Native.Nat.{◌-◌, ◌≤◌}
+use Prim.Native.Nat.{◌-◌}
 use mathlib.Core.Path.{◌≡◌, refl}
 use Rattle.choice.proofs.Tests.{true-not-false}
-use Rattle.scans.proofs.Flags.{Seen, seen_next, seen_single}
+use Rattle.scans.proofs.Flags.{seen_next, seen_single}
 use Rattle.scans.proofs.some_double.Goals as goal
 
 pub loop-k-init : goal.loop-k-init

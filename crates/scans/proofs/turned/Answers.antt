@@ -1,4 +1,3 @@
-use borrow.Author.Rules.{rules}
 use Rattle.scans.proofs.Flags.{turn_is}
 use Rattle.scans.proofs.turned.Goals as goal
 

@@ -1,4 +1,3 @@
-use borrow.Author.Rules.{rules}
 use Rattle.tally.proofs.Laws.{all-zeros}
 use Rattle.tally.proofs.clear.Goals as goal
 

@@ -1,9 +1,8 @@
 use borrow.Author.Rules.{rules}
 use native.Mathlib.Omega.{arith}
-use Prim.Native.Nat.{◌-◌, ◌≤◌}
-use mathlib.Core.Path.{◌≡◌, refl}
-use lib.ListN.{length}
-use Rattle.visits.proofs.Unpacks.{Unpacking, unpacking_first, unpacking_next, unpacking_last}
+use Prim.Native.Nat.{◌-◌}
+use mathlib.Core.Path.{refl}
+use Rattle.visits.proofs.Unpacks.{unpacking_first, unpacking_next, unpacking_last}
 use Rattle.visits.proofs.unpack.Goals as goal
 
 pub loop-k-init : goal.loop-k-init

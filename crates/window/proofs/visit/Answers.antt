@@ -1,4 +1,3 @@
-use borrow.Author.Rules.{rules}
 use mathlib.Core.Path.{◌∙◌}
 use Rattle.window.specs.Window.{board}
 use Rattle.window.proofs.Steps.{visit_before, visit_bits, visit_numbers}

@@ -1,4 +1,3 @@
-use borrow.Author.Rules.{rules}
 use native.Mathlib.Omega.{arith}
 use native.Mathlib.Nat.{mod-one}
 use Rattle.window.proofs.Steps.{bit-outside, bit-again, bit-first}

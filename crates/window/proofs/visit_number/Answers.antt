@@ -1,4 +1,3 @@
-use borrow.Author.Rules.{rules}
 use Rattle.window.proofs.Steps.{number-outside, number-inside}
 use Rattle.window.proofs.visit_number.Goals as goal
 

@@ -1,11 +1,9 @@
 use borrow.Author.Rules.{rules}
 use native.Mathlib.Omega.{arith}
 use native.Mathlib.Nat.{add-zero, sub-zero}
-use Prim.Native.Nat.{◌+◌, ◌-◌, ◌≤◌}
-use mathlib.Core.Path.{◌≡◌, refl, sym, ◌∙◌}
-use lib.ListN.{length}
-use Rattle.tally.specs.Tally.{run}
-use Rattle.window.specs.Window.{board, visit_all_in}
+use Prim.Native.Nat.{◌-◌}
+use mathlib.Core.Path.{refl, sym, ◌∙◌}
+use Rattle.window.specs.Window.{board}
 use Rattle.window.proofs.Steps.{run_turn, run_none}
 use Rattle.window.proofs.visit_run.Goals as goal
 

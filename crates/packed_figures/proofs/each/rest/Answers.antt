@@ -1,9 +1,9 @@
+use Rattle.std.specs.Prelude.{if◌then◌else◌}
 use borrow.Author.Rules.{rules}
 use native.Mathlib.Omega.{arith}
-use Prim.Native.Nat.{ℕ, ◌-◌, ◌*◌, ◌^◌, ◌≤◌}
+use Prim.Native.Nat.{ℕ, ◌-◌, ◌*◌, ◌^◌}
 use mathlib.Core.Path.{◌≡◌, ap}
 use lib.ListN.{length}
-use Rattle.choice.specs.Pick.{if◌then◌else◌, count}
 use Rattle.choice.proofs.Searches.{count_most}
 use Rattle.packed.specs.Packed.{packed, unlike_at, under_at}
 use Rattle.packed.proofs.Laws.{count_next, lie_inside, lie_place}

@@ -1,12 +1,7 @@
-use borrow.Author.Rules.{rules}
-use native.Mathlib.Omega.{arith}
-use Prim.Native.Nat.{ℕ, ◌-◌, ◌*◌, ◌^◌, ◌≤◌}
-use mathlib.Core.Path.{◌≡◌, ap}
-use lib.ListN.{length}
-use Rattle.choice.specs.Pick.{if◌then◌else◌, count}
-use Rattle.choice.proofs.Searches.{count_most}
-use Rattle.packed.specs.Packed.{packed, unlike_at, under_at}
-use Rattle.packed.proofs.Laws.{count_next, lie_inside, lie_place}
+use Prim.Native.Nat.{◌-◌, ◌≤◌}
+use mathlib.Core.Path.{◌≡◌}
+use Rattle.choice.specs.Pick.{count}
+use Rattle.packed.specs.Packed.{unlike_at, under_at}
 use Rattle.packed_figures.proofs.each.rest.Given as goal
 
 abbrev pub invariant-loop-j : goal.invariant-loop-j

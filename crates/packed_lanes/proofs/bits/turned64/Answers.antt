@@ -1,4 +1,3 @@
-use borrow.Author.Rules.{rules}
 use Rattle.packed.proofs.Turned.{turned8}
 use Rattle.packed_lanes.proofs.bits.turned64.Goals as goal
 

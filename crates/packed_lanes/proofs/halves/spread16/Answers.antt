@@ -1,4 +1,3 @@
-use borrow.Author.Rules.{rules}
 use native.Mathlib.Omega.{arith}
 use Rattle.widths.specs.Width.{field}
 use Rattle.packed.specs.Lanes.{lanes, parts}

@@ -1,10 +1,5 @@
-use borrow.Author.Rules.{rules}
-use native.Mathlib.Omega.{arith}
-use Prim.Native.Nat.{◌+◌, ◌-◌, ◌≤◌}
-use mathlib.Core.Path.{◌≡◌}
-use lib.ListN.{length, get_or}
-use Rattle.packed.specs.Lanes.{lanes, parts}
-use Rattle.packed_lanes.proofs.Lanes.{Lanes, numbers-most, figures-most, lanes_start, lanes_low, lanes_end, over-low, lanes_next, tops}
+use Prim.Native.Nat.{◌-◌, ◌≤◌}
+use Rattle.packed_lanes.proofs.Lanes.{Lanes}
 use Rattle.packed_lanes.proofs.quarters.group2.Given as goal
 
 abbrev pub invariant-loop-b : goal.invariant-loop-b

@@ -1,4 +1,3 @@
-use borrow.Author.Rules.{rules}
 use native.Mathlib.Omega.{arith}
 use native.Mathlib.Nat.{add-zero, add_assoc, div-div-eq-div-mul}
 use Rattle.packed_lanes.specs.Sums.{sum}

@@ -1,13 +1,12 @@
-use borrow.Author.Rules.{rules}
+use Rattle.std.specs.Prelude.{if◌then◌else◌}
 use native.Mathlib.Omega.{arith}
-use Prim.Native.Nat.{ℕ, ◌-◌, ◌*◌, ◌^◌, ◌≤◌}
+use Prim.Native.Nat.{ℕ, ◌-◌, ◌*◌, ◌^◌}
 use mathlib.Core.Path.{◌≡◌, ap, sym, ◌∙◌}
 use lib.ListN.{get_or}
-use Rattle.choice.specs.Pick.{if◌then◌else◌, count}
 use Rattle.packed.specs.Packed.{packed, unlike_at, under_at}
 use Rattle.packed.proofs.Laws.{count_next, lie_inside, lie_place}
 use Rattle.packed_twos.specs.Twos.{twos, many}
-use Rattle.packed_twos.proofs.Laws.{get_d_twos}
+use Rattle.packed_twos.proofs.Laws.{get_or-twos}
 use Rattle.packed_twos.proofs.each.numbers.Goals as goal
 
 pub overflow_mul-width : goal.overflow_mul-width
@@ -31,7 +30,7 @@ loop-j-preserved c =
     let F = twos a.figures.now (many a.figures.now) in
     let j = c.loop-j.j in
     let r = rw c.power-width.ensures.0 at c.load-x.ensures in
-    let y : c.from16-f.result ≡ get_or F j 0 = c.from16-f.ensures.0 ∙ c.load16.ensures ∙ sym (get_d_twos a.figures.now (many a.figures.now) j c.loop-j-test.true) in
+    let y : c.from16-f.result ≡ get_or F j 0 = c.from16-f.ensures.0 ∙ c.load16.ensures ∙ sym (get_or-twos a.figures.now (many a.figures.now) j c.loop-j-test.true) in
     let e : c.one_unlike-unlike.result ≡ (if unlike_at a.order B F j then 1 else 0) = rw (← r, ← y) c.one_unlike-unlike.ensures.0 in
     let f : c.one_under-under.result ≡ (if under_at a.order B F j then 1 else 0) = rw (← r, ← y) c.one_under-under.ensures.0 in
     (omega arith, (omega (arith, c.one_unlike-unlike.ensures.1, c.loop-j.invariant.1.0), omega (arith, c.one_under-under.ensures.1, c.loop-j.invariant.1.1)), omega (arith, e, count_next (unlike_at a.order B F) j, c.loop-j.invariant.2), omega (arith, f, count_next (under_at a.order B F) j, c.loop-j.invariant.3))

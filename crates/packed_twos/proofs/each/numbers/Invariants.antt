@@ -1,13 +1,8 @@
-use borrow.Author.Rules.{rules}
-use native.Mathlib.Omega.{arith}
-use Prim.Native.Nat.{ℕ, ◌-◌, ◌*◌, ◌^◌, ◌≤◌}
-use mathlib.Core.Path.{◌≡◌, ap, sym, ◌∙◌}
-use lib.ListN.{get_or}
-use Rattle.choice.specs.Pick.{if◌then◌else◌, count}
-use Rattle.packed.specs.Packed.{packed, unlike_at, under_at}
-use Rattle.packed.proofs.Laws.{count_next, lie_inside, lie_place}
-use Rattle.packed_twos.specs.Twos.{twos, many}
-use Rattle.packed_twos.proofs.Laws.{get_d_twos}
+use Prim.Native.Nat.{◌-◌, ◌≤◌}
+use mathlib.Core.Path.{◌≡◌}
+use Rattle.choice.specs.Pick.{count}
+use Rattle.packed.specs.Packed.{unlike_at, under_at}
+use Rattle.packed_twos.specs.Twos.{twos}
 use Rattle.packed_twos.proofs.each.numbers.Given as goal
 
 abbrev pub invariant-loop-j : goal.invariant-loop-j

@@ -1,11 +1,7 @@
-use borrow.Author.Rules.{rules}
-use native.Mathlib.Omega.{arith}
-use Prim.Native.Nat.{◌-◌, ◌/◌, ◌%◌, ◌≤◌}
-use mathlib.Core.Path.{◌≡◌, refl, ◌∙◌}
-use lib.ListN.{length, length-set}
-use borrow.Author.Tests.{eqb-true}
-use Rattle.packed_twos.specs.Twos.{many, Narrow}
-use Rattle.packed_twos.proofs.Seen.{Seen, seen_none, seen_next, seen_narrow}
+use Prim.Native.Nat.{◌-◌, ◌≤◌}
+use mathlib.Core.Path.{◌≡◌}
+use lib.ListN.{length}
+use Rattle.packed_twos.proofs.Seen.{Seen}
 use Rattle.packed_twos.proofs.lows.narrowed.Given as goal
 
 abbrev pub invariant-loop-j : goal.invariant-loop-j

@@ -6,7 +6,6 @@ use lib.ListN.{length}
 use Rattle.qcow2_spec.specs.Header.{entry_end}
 use Rattle.qcow2_snapshots.specs.Entry.{bad_entry}
 use Rattle.qcow2_snapshots.proofs.Laws.{entry_past}
-use borrow.Author.Rules.{rules}
 use Rattle.qcow2_snapshots.proofs.entry.bad_entry.Goals as goal
 
 pub returns-then-past : goal.returns-then-past

@@ -5,7 +5,6 @@ use mathlib.Core.Path.{◌≡◌, ap, ◌∙◌}
 use Rattle.endian.specs.Big.{be32, be64}
 use Rattle.qcow2_spec.specs.Header.{most_l1}
 use Rattle.qcow2_snapshots.specs.Entry.{bad_root}
-use borrow.Author.Rules.{rules}
 use Rattle.qcow2_snapshots.proofs.entry.bad_root.Goals as goal
 
 pub returns-then-size-gt-MOST_L1 : goal.returns-then-size-gt-MOST_L1

@@ -1,11 +1,8 @@
 use borrow.Author.Rules.{rules}
 use native.Mathlib.Omega.{arith}
-use Prim.Native.Nat.{ℕ, ◌-◌, ◌*◌, ◌^◌, ◌≤◌}
+use Prim.Native.Nat.{ℕ, ◌-◌, ◌^◌}
 use mathlib.Core.Path.{◌≡◌, sym, ◌∙◌}
 use mathlib.Core.Bool.{Bool, true, false}
-use lib.ListN.{drop}
-use Rattle.choice.specs.Pick.{all}
-use Rattle.endian.specs.Big.{entries}
 use Rattle.endian.proofs.Entries.{entries-whole}
 use Rattle.qcow2_spec.specs.Header.{good_block}
 use Rattle.qcow2_tables.proofs.Laws.{all-next, all_stop, all_done}
@@ -15,7 +12,6 @@ pub loop-i-init : goal.loop-i-init
 loop-i-init c = (search rules, rw entries-whole)
 
 -- what is told of entry i
-
 told : (p : ℕ → Bool) (e x : ℕ) (r b : Bool) → e ≡ x → r ≡ p e → r ≡ b → p x ≡ b
 told p e x r b f g h = rw f at (sym g ∙ h)
 

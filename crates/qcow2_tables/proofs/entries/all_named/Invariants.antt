@@ -1,14 +1,9 @@
-use borrow.Author.Rules.{rules}
-use native.Mathlib.Omega.{arith}
-use Prim.Native.Nat.{ℕ, ◌-◌, ◌*◌, ◌^◌, ◌≤◌}
-use mathlib.Core.Path.{◌≡◌, sym, ◌∙◌}
-use mathlib.Core.Bool.{Bool, true, false}
+use Prim.Native.Nat.{◌-◌, ◌*◌, ◌^◌, ◌≤◌}
+use mathlib.Core.Path.{◌≡◌}
 use lib.ListN.{drop}
 use Rattle.choice.specs.Pick.{all}
 use Rattle.endian.specs.Big.{entries}
-use Rattle.endian.proofs.Entries.{entries-whole}
 use Rattle.qcow2_spec.specs.Header.{good_block}
-use Rattle.qcow2_tables.proofs.Laws.{all-next, all_stop, all_done}
 use Rattle.qcow2_tables.proofs.entries.all_named.Given as goal
 
 abbrev pub invariant-loop-i : goal.invariant-loop-i

@@ -1,4 +1,3 @@
-use borrow.Author.Rules.{rules}
 use Rattle.endian.proofs.Entries.{take-entries, drop-entries}
 use Rattle.qcow2_spec.specs.Header.{good_table}
 use Rattle.blank.proofs.Zeros.{part-zeros}

@@ -6,7 +6,6 @@ use borrow.Author.Tests.{eq-eqb, ne_eqb, ltb-false}
 use Rattle.tally.specs.Tally.{sign_of}
 use Rattle.tally.proofs.Signs.{neg_test, bits_are, cap_test}
 use Prim.Native.Nat.{◌+◌, ◌≤◌, min}
-use borrow.Author.Rules.{rules}
 use Rattle.tally.proofs.against.compare.Goals as goal
 
 pub returns-then-d-lt0 : goal.returns-then-d-lt0

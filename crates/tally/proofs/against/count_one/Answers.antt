@@ -1,4 +1,3 @@
-use borrow.Author.Rules.{rules}
 use mathlib.Core.Path.{sym, ◌∙◌}
 use Rattle.tally.proofs.Counting.{counted-found, counted-short, counted_even, counted-over}
 use Rattle.tally.proofs.against.count_one.Goals as goal

@@ -4,7 +4,6 @@ use mathlib.Core.Path.{ap, ◌∙◌}
 use mir.Facts.{to_z-of_z}
 use lib.IntN.{sub_ℕ}
 use Rattle.tally.proofs.Signs.{diff_is, diff_fits}
-use borrow.Author.Rules.{rules}
 use Rattle.tally.proofs.against.difference.Goals as goal
 
 pub overflow_sub-result : goal.overflow_sub-result

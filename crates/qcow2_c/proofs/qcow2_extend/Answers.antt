@@ -1,0 +1,8 @@
+use mathlib.Core.Path.{ap, ◌∙◌}
+use Rattle.qcow2_codes.specs.Codes.{outcome_code, outcome_units}
+use Rattle.qcow2_c.proofs.qcow2_extend.Goals as goal
+
+pub returns : goal.returns
+returns c =
+    let d = c.extend-o.ensures in
+    ((c.put_outcome.ensures.0 ∙ ap outcome_code d.answer, c.put_outcome.ensures.1 ∙ ap outcome_units d.answer), d.left)

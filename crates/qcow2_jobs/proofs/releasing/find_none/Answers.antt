@@ -1,0 +1,10 @@
+use Rattle.qcow2_jobs.proofs.Discards.{tableless, nothing}
+use Rattle.qcow2_jobs.proofs.releasing.find_none.Goals as goal
+
+pub returns-then-g : goal.returns-then-g
+returns-then-g c =
+    tableless c.args.g c.args.image.now c.requires _ c.if-g.true
+
+pub returns-else-g : goal.returns-else-g
+returns-else-g c =
+    nothing c.args.g c.args.image.now c.requires _ c.if-g.false

@@ -1,0 +1,30 @@
+use native.Mathlib.Omega.{arith}
+use Prim.Native.Nat.{◌-◌}
+use mathlib.Core.Path.{◌≡◌, refl, ◌∙◌, ap}
+use mathlib.Core.List.{◌++◌}
+use lib.ListN.{length, drop}
+use Rattle.qcow2_spec.specs.Guest.{guest_bytes}
+use Rattle.qcow2_read.proofs.Filling.{no_bytes, next-bytes, length-filled, all-bytes}
+use borrow.Author.Rules.{rules}
+use Rattle.qcow2_read.proofs.read_below.Goals as goal
+
+pub loop-done-init : goal.loop-done-init
+loop-done-init c = (search rules, refl, no_bytes _ _ _ _ _)
+
+pub next_piece-done-requires : goal.next_piece-done-requires
+next_piece-done-requires c =
+    (c.requires.0, (rw c.loop-done.invariant.1 c.requires.1.0, (rw c.loop-done.invariant.1 c.requires.1.1, omega arith)))
+
+pub loop-done-preserved : goal.loop-done-preserved
+loop-done-preserved c =
+    let a = c.args in
+    let s = a.image.now in
+    let r = c.next_piece-done.result in
+    let w : c.next_piece-done.new.out ≡ guest_bytes a.backing.now s a.g.root a.x r ++ drop r a.out.now =
+    c.next_piece-done.ensures.1 ∙ next-bytes a.backing.now s a.g.root a.x a.out.now c.loop-done.done r c.loop-done.out c.loop-done.invariant.2 (omega arith) in
+    (omega arith, ap length w ∙ length-filled a.backing.now s a.g.root a.x a.out.now r (omega arith), w)
+
+pub returns : goal.returns
+returns c =
+    let a = c.args in
+    c.loop-done.invariant.2 ∙ all-bytes a.backing.now a.image.now a.g.root a.x a.out.now c.loop-done.done (omega arith)
