@@ -82,10 +82,10 @@ module _ (g : Geo) (K : Codec) (ok : GeoOk g K) (m0 : ℕ → ℕ → ℕ) (img 
   knows₂ = knows_allot g K ok m0 img k0 role dead r l f s p past c (datum i j) (used_datum i j) no_t A c_n zeroed spared l_a sm_a
 
   knows₃ : (a b w : ℕ) → a < g.L → b < g.E → K.clus w < g.N → Known g K past x dead a b w → Known g K past (mem g.C s₃) dead a b w
-  knows₃ a b w aL bE w_n k =
+  knows₃ a b w a_l b_e w_n k =
       rw same at
-      (enter_knows g K ok m0 img k0 past given dead _ _ _ s₂ plan₂ i j (K.mk c) i_l j_e (ok.laws.mk_lt c c_n) some₂ alone₂ put plain none₂ a b w aL bE w_n (knows₂ a b w aL bE w_n k)
-      (λ y d e. absurd (fresh-apart g K ok past x x₂ p.fine.sound dead c (no_refs g K ok m0 img k0 role dead r l f s p c (datum i j) (used_datum i j) no_t A c_n zeroed spared l_a sm_a) zeroed spared a b w aL bE k y d (e ∙ mc))))
+      (enter_knows g K ok m0 img k0 past given dead _ _ _ s₂ plan₂ i j (K.mk c) i_l j_e (ok.laws.mk_lt c c_n) some₂ alone₂ put plain none₂ a b w a_l b_e w_n (knows₂ a b w a_l b_e w_n k)
+      (λ y d e. absurd (fresh-apart g K ok past x x₂ p.fine.sound dead c (no_refs g K ok m0 img k0 role dead r l f s p c (datum i j) (used_datum i j) no_t A c_n zeroed spared l_a sm_a) zeroed spared a b w a_l b_e k y d (e ∙ mc))))
 
   known₃ : Known g K past (mem g.C s₃) dead i j (K.mk c)
   known₃ = rw same at (enter_known g K ok m0 img k0 past given dead _ _ _ s₂ plan₂ i j (K.mk c) i_l j_e (ok.laws.mk_lt c c_n) some₂ alone₂ put plain none₂ (rw same now))

@@ -41,8 +41,8 @@ module _ (g : Geo) (K : Codec) (ok : GeoOk g K) (m0 : ℕ → ℕ → ℕ) (img 
   value = cleared g K ok m0 img k0 role dead r l f s p i j i_l j_e act e₀ good low bare some alone one fine
 
   knows₁ : (a b v : ℕ) → a < g.L → b < g.E → K.clus v < g.N → Known g K past x dead a b v → Known g K past (mem g.C s₁) dead a b v
-  knows₁ a b v aL bE v_n k =
-      enter_knows g K ok m0 img k0 past role dead r l f s p i j e₀ i_l j_e low some alone value (λ d. absurd (d bare)) one a b v aL bE v_n k (λ y d e. absurd (d (e ∙ bare)))
+  knows₁ a b v a_l b_e v_n k =
+      enter_knows g K ok m0 img k0 past role dead r l f s p i j e₀ i_l j_e low some alone value (λ d. absurd (d bare)) one a b v a_l b_e v_n k (λ y d e. absurd (d (e ∙ bare)))
 
   known₁ : Known g K past (mem g.C s₁) dead i j e₀
   known₁ = enter_known g K ok m0 img k0 past role dead r l f s p i j e₀ i_l j_e low some alone value (λ d. absurd (d bare)) one now
@@ -100,7 +100,7 @@ module _ (g : Geo) (K : Codec) (ok : GeoOk g K) (m0 : ℕ → ℕ → ℕ) (img 
     discard =
         record {
           step = discard_call g K ok m0 img k0 role dead r l f s p i j i_l j_e act e₀ good low bare some alone one fine d y;
-          knows = λ a b v aL bE v_n k. knows₂ a b v aL bE v_n (knows₁ a b v aL bE v_n k);
+          knows = λ a b v a_l b_e v_n k. knows₂ a b v a_l b_e v_n (knows₁ a b v a_l b_e v_n k);
           written = each_append
               (enter_written g K ok m0 img k0 past role dead r l f s p i j e₀ i_l j_e low some alone value (λ z. absurd (z bare)) one (Known g K past (mem g.C s₂) (λ n. dead n ⊎ (n ≡ c)))
               (knows₂ i j e₀ i_l j_e (ok.laws.in2 e₀ good) known₁) y) none;

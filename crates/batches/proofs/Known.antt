@@ -110,10 +110,10 @@ module _ (g : Geo) (K : Codec) (ok : GeoOk g K) (past : (ℕ → ℕ → ℕ) �
   pub knows_place : Keep g K x x' → past x' → (a b : ℕ) → a < g.L → b < g.E → dat g K x a b ≢ 0 → refs_of g K x (dat g K x a b) ≤ 1
       → ((c o : ℕ) → o < g.C → c ≢ dat g K x a b → x' c o ≡ x c o) → ((c : ℕ) → c < g.N → cnt g x' c ≡ cnt g x c)
       → (i j v : ℕ) → i < g.L → j < g.E → K.clus v < g.N → Known g K past x dead i j v → Known g K past x' dead i j v
-  knows_place k now a b aL bE d one bytes same i j v l n v_n w = go (ℕ_discrete (K.clus v) (dat g K x a b)) (ℕ_discrete (K.flag v) 0)
+  knows_place k now a b a_l b_e d one bytes same i j v l n v_n w = go (ℕ_discrete (K.clus v) (dat g K x a b)) (ℕ_discrete (K.flag v) 0)
     where
       named : 1 ≤ refs_of g K x (dat g K x a b)
-      named = named_dat g K x a b aL bE d
+      named = named_dat g K x a b a_l b_e d
 
       after : (Current g K past x i j v ⊎ Gone g K past x dead v) → Current g K past x' i j v ⊎ Gone g K past x' dead v
       after (inl c) = inl (keep_current k i j v l n c)
@@ -149,16 +149,16 @@ module _ (g : Geo) (K : Codec) (ok : GeoOk g K) (past : (ℕ → ℕ → ℕ) �
       go (inr h) = low h.kept
 
   -- ---- entry b below L1 entry a becomes e
-  module _ (sm : (k o : ℕ) → x' k o < 256) (a b e : ℕ) (aL : a < g.L) (bE : b < g.E) (some : tab g K x a ≢ 0) (alone : refs_of g K x (tab g K x a) ≤ 1)
+  module _ (sm : (k o : ℕ) → x' k o < 256) (a b e : ℕ) (a_l : a < g.L) (b_e : b < g.E) (some : tab g K x a ≢ 0) (alone : refs_of g K x (tab g K x a) ≤ 1)
       (good : K.good2 e) (le : e < 256 ^ 8) (plain : K.clus e ≢ 0 → K.flag e ≡ 0) (one : dat g K x a b ≢ 0 → refs_of g K x (dat g K x a b) ≤ 1)
       (st : Stored g.C x x' (tab g K x a) (8 * b) (enc 8 e)) where
     moved : (c : ℕ) → refs_of g K x' c + hit c (dat g K x a b) ≡ refs_of g K x c + hit c (K.clus e)
-    moved = entry_refs g K ok x sx x' sm a b e aL bE some alone good le st
+    moved = entry_refs g K ok x sx x' sm a b e a_l b_e some alone good le st
 
     entry_current : (i j v : ℕ) → i < g.L → j < g.E → (i ≢ a) ⊎ (j ≢ b) → Current g K past x i j v → Current g K past x' i j v
     entry_current i j v l n o c =
-        let t : tab g K x' i ≡ tab g K x i = entry_tab g K ok x sx x' sm a b e aL bE some alone good le st i l in
-        let y : l2 g x' (tab g K x' i) j ≡ l2 g x (tab g K x i) j = ap (λ (k : ℕ). l2 g x' k j) t ∙ entry_l2 g K ok x sx x' sm a b e aL bE some alone good le st i j l n o c.some in
+        let t : tab g K x' i ≡ tab g K x i = entry_tab g K ok x sx x' sm a b e a_l b_e some alone good le st i l in
+        let y : l2 g x' (tab g K x' i) j ≡ l2 g x (tab g K x i) j = ap (λ (k : ℕ). l2 g x' k j) t ∙ entry_l2 g K ok x sx x' sm a b e a_l b_e some alone good le st i j l n o c.some in
         record { some = λ z. c.some (sym t ∙ z); place = ap K.clus y ∙ c.place; plain = ap K.flag y ∙ c.plain }
 
     -- the place that stood there is named again, or by nothing
@@ -166,25 +166,25 @@ module _ (g : Geo) (K : Codec) (ok : GeoOk g K) (past : (ℕ → ℕ → ℕ) �
     replaced v f d c = go (ℕ_discrete (K.clus v) (K.clus e))
       where
         t : tab g K x' a ≡ tab g K x a
-        t = entry_tab g K ok x sx x' sm a b e aL bE some alone good le st a aL
+        t = entry_tab g K ok x sx x' sm a b e a_l b_e some alone good le st a a_l
 
         new : l2 g x' (tab g K x' a) b ≡ e
-        new = ap (λ (k : ℕ). l2 g x' k b) t ∙ entry_new g K ok x sx x' sm a b e aL bE some alone good le st
+        new = ap (λ (k : ℕ). l2 g x' k b) t ∙ entry_new g K ok x sx x' sm a b e a_l b_e some alone good le st
 
         h : dat g K x a b ≡ K.clus v
         h = current_dat a b v c
 
         v_n : K.clus v < g.N
-        v_n = subst (λ (k : ℕ). k < g.N) h (dat_in g K ok x sx a b aL bE)
+        v_n = subst (λ (k : ℕ). k < g.N) h (dat_in g K ok x sx a b a_l b_e)
 
         go : Dec (K.clus v ≡ K.clus e) → Current g K past x' a b v ⊎ Gone g K past x' dead v
         go (yes q) = inl (record { some = λ z. some (sym t ∙ z); place = ap K.clus new ∙ sym q; plain = ap K.flag new ∙ plain (λ z. d (q ∙ z)) })
         go (no q) =
-            let r : 1 ≤ refs_of g K x (K.clus v) = current_refs a b v aL bE d c in
+            let r : 1 ≤ refs_of g K x (K.clus v) = current_refs a b v a_l b_e d c in
             let u : refs_of g K x (K.clus v) ≤ 1 = subst (λ (k : ℕ). refs_of g K x k ≤ 1) h (one (λ z. d (sym h ∙ z))) in
             inr (record {
               free = omega (arith, moved (K.clus v), r, u, ap (hit (K.clus v)) h, hit_self (K.clus v) d, hit_other (K.clus v) (K.clus e) q);
-              kept = inr (omega (arith, r, sx.inv.covered (K.clus v) v_n, entry_cnt g K ok x sx x' sm a b e aL bE some alone good le st (K.clus v) v_n));
+              kept = inr (omega (arith, r, sx.inv.covered (K.clus v) v_n, entry_cnt g K ok x sx x' sm a b e a_l b_e some alone good le st (K.clus v) v_n));
             })
 
     pub knows_entry : (i j v : ℕ) → i < g.L → j < g.E → K.clus v < g.N → Known g K past x dead i j v
@@ -192,11 +192,11 @@ module _ (g : Geo) (K : Codec) (ok : GeoOk g K) (past : (ℕ → ℕ → ℕ) �
     knows_entry i j v l n v_n w apart = known_frame g K past x x' dead dead i j v w go
       where
         away : K.clus v ≢ 0 → Current g K past x i j v ⊎ Gone g K past x dead v → K.clus v ≢ tab g K x a
-        away d (inl c) y = tab_dat g.L g.E (fix g x) (tab g K x) (dat g K x) a i j aL l n some alone (sym y ∙ sym (current_dat i j v c))
-        away d (inr c) y = omega (arith, c.free, ap (refs_of g K x) y, named_tab g K x a aL some)
+        away d (inl c) y = tab_dat g.L g.E (fix g x) (tab g K x) (dat g K x) a i j a_l l n some alone (sym y ∙ sym (current_dat i j v c))
+        away d (inr c) y = omega (arith, c.free, ap (refs_of g K x) y, named_tab g K x a a_l some)
 
         gone : K.flag v ≡ 0 → K.clus v ≢ 0 → Gone g K past x dead v → Gone g K past x' dead v
-        gone f d c = record { free = go₂ (ℕ_discrete (K.clus v) (K.clus e)); kept = rw (entry_cnt g K ok x sx x' sm a b e aL bE some alone good le st (K.clus v) v_n) c.kept }
+        gone f d c = record { free = go₂ (ℕ_discrete (K.clus v) (K.clus e)); kept = rw (entry_cnt g K ok x sx x' sm a b e a_l b_e some alone good le st (K.clus v) v_n) c.kept }
           where
             go₂ : Dec (K.clus v ≡ K.clus e) → refs_of g K x' (K.clus v) ≡ 0
             go₂ (no q) = omega (arith, moved (K.clus v), c.free, hit_other (K.clus v) (K.clus e) q)
@@ -215,7 +215,7 @@ module _ (g : Geo) (K : Codec) (ok : GeoOk g K) (past : (ℕ → ℕ → ℕ) �
                 pick (inl o) = rw (o.0, o.1) (replaced v f d (rw (o.0, o.1) at y))
 
   -- ---- L1 entry a gets the table t
-  module _ (sm : (k o : ℕ) → x' k o < 256) (a t : ℕ) (aL : a < g.L) (ha : Has g a) (t_n : t < g.N) (none : tab g K x a ≡ 0)
+  module _ (sm : (k o : ℕ) → x' k o < 256) (a t : ℕ) (a_l : a < g.L) (ha : Has g a) (t_n : t < g.N) (none : tab g K x a ≡ 0)
       (st : Stored g.C x x' (row g a) (8 * col g a) (enc 8 (K.mk t))) where
     pub knows_link : (i j v : ℕ) → i < g.L → j < g.E → K.clus v < g.N → Known g K past x dead i j v
         → (K.flag v ≡ 0 → K.clus v ≢ 0 → refs_of g K x (K.clus v) ≡ 0 → refs_of g K x' (K.clus v) ≡ 0) → Known g K past x' dead i j v
@@ -223,16 +223,16 @@ module _ (g : Geo) (K : Codec) (ok : GeoOk g K) (past : (ℕ → ℕ → ℕ) �
       where
         away : K.clus v ≢ 0 → Current g K past x i j v ⊎ Gone g K past x dead v → K.clus v ≢ row g a
         away d (inl c) y =
-            fix_dat g.L g.E (fix g x) (tab g K x) (dat g K x) (row g a) i j l n (at-not-0 g K ok x sx x' sm a t aL ha t_n st)
-            (sx.inv.fixed (row g a) (row-N g K ok a aL ha) (row-fix g K ok x a aL ha)) (row-fix g K ok x a aL ha) (sym y ∙ sym (current_dat i j v c))
-        away d (inr c) y = omega (arith, c.free, ap (refs_of g K x) y, row-fix g K ok x a aL ha, refs_fix g.L g.E (fix g x) (tab g K x) (dat g K x) (row g a))
+            fix_dat g.L g.E (fix g x) (tab g K x) (dat g K x) (row g a) i j l n (at-not-0 g K ok x sx x' sm a t a_l ha t_n st)
+            (sx.inv.fixed (row g a) (row-N g K ok a a_l ha) (row-fix g K ok x a a_l ha)) (row-fix g K ok x a a_l ha) (sym y ∙ sym (current_dat i j v c))
+        away d (inr c) y = omega (arith, c.free, ap (refs_of g K x) y, row-fix g K ok x a a_l ha, refs_fix g.L g.E (fix g x) (tab g K x) (dat g K x) (row g a))
 
         stand : K.flag v ≡ 0 → K.clus v ≢ 0 → Current g K past x i j v ⊎ Gone g K past x dead v → Current g K past x' i j v ⊎ Gone g K past x' dead v
-        stand f d (inr c) = inr (record { free = apart f d c.free; kept = rw (link_cnt g K ok x sx x' sm a t aL ha t_n st (K.clus v) v_n) c.kept })
+        stand f d (inr c) = inr (record { free = apart f d c.free; kept = rw (link_cnt g K ok x sx x' sm a t a_l ha t_n st (K.clus v) v_n) c.kept })
         stand f d (inl c) =
             let o : i ≢ a = λ z. c.some (ap (tab g K x) z ∙ none) in
-            let y : tab g K x' i ≡ tab g K x i = link_tab g K ok x sx x' sm a t aL ha t_n st i l o in
-            let e : l2 g x' (tab g K x' i) j ≡ l2 g x (tab g K x i) j = ap (λ (k : ℕ). l2 g x' k j) y ∙ link_l2 g K ok x sx x' sm a t aL ha t_n st i j l n in
+            let y : tab g K x' i ≡ tab g K x i = link_tab g K ok x sx x' sm a t a_l ha t_n st i l o in
+            let e : l2 g x' (tab g K x' i) j ≡ l2 g x (tab g K x i) j = ap (λ (k : ℕ). l2 g x' k j) y ∙ link_l2 g K ok x sx x' sm a t a_l ha t_n st i j l n in
             inl (record { some = λ z. c.some (sym y ∙ z); place = ap K.clus e ∙ c.place; plain = ap K.flag e ∙ c.plain })
 
         go : K.flag v ≡ 0 → K.clus v ≢ 0 → Current g K past x i j v ⊎ Gone g K past x dead v

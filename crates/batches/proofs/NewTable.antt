@@ -46,10 +46,10 @@ module _ (g : Geo) (K : Codec) (ok : GeoOk g K) (m0 : ℕ → ℕ → ℕ) (img 
 
   -- neither cluster is a known place
   not_t : (a b w : ℕ) → a < g.L → b < g.E → Known g K past y₀ dead a b w → K.flag w ≡ 0 → K.clus w ≢ 0 → K.clus w ≢ t
-  not_t a b w aL bE = fresh-apart g K ok past y₀ y₀ p.fine.sound dead t (free_t g K ok m0 img k0 role dead r l f s p settled i j i_l j_e act hi z t c A t_n c_n tc zt zc st sc l_a sm_a) zt st a b w aL bE
+  not_t a b w a_l b_e = fresh-apart g K ok past y₀ y₀ p.fine.sound dead t (free_t g K ok m0 img k0 role dead r l f s p settled i j i_l j_e act hi z t c A t_n c_n tc zt zc st sc l_a sm_a) zt st a b w a_l b_e
 
   not_c : (a b w : ℕ) → a < g.L → b < g.E → Known g K past y₀ dead a b w → K.flag w ≡ 0 → K.clus w ≢ 0 → K.clus w ≢ c
-  not_c a b w aL bE = fresh-apart g K ok past y₀ y₀ p.fine.sound dead c (omega (arith, zc, p.fine.sound.inv.covered c c_n)) zc sc a b w aL bE
+  not_c a b w a_l b_e = fresh-apart g K ok past y₀ y₀ p.fine.sound dead c (omega (arith, zc, p.fine.sound.inv.covered c c_n)) zc sc a b w a_l b_e
 
   knows₁ : (a b w : ℕ) → a < g.L → b < g.E → K.clus w < g.N → Known g K past y₀ dead a b w → Known g K past y₁ dead a b w
   knows₁ = knows_allot g K ok m0 img k0 role dead r l f s p past t (table i) (used_table i) (one g K ok m0 img k0 role dead r l f s p settled i j i_l j_e act hi z t c A t_n c_n tc zt zc st sc l_a sm_a) (Z g K ok m0 img k0 role dead r l f s p settled i j i_l j_e act hi z t c A t_n c_n tc zt zc st sc l_a sm_a) t_n zt st (l_z g K ok m0 img k0 role dead r l f s p settled i j i_l j_e act hi z t c A t_n c_n tc zt zc st sc l_a sm_a) (small-replicate g.C)
@@ -58,11 +58,11 @@ module _ (g : Geo) (K : Codec) (ok : GeoOk g K) (m0 : ℕ → ℕ → ℕ) (img 
   knows₂ = knows_allot g K ok m0 img k0 (role₁ g K ok m0 img k0 role dead r l f s p settled i j i_l j_e act hi z t c A t_n c_n tc zt zc st sc l_a sm_a) dead _ _ _ (s₁ g K ok m0 img k0 role dead r l f s p settled i j i_l j_e act hi z t c A t_n c_n tc zt zc st sc l_a sm_a) (plan₁ g K ok m0 img k0 role dead r l f s p settled i j i_l j_e act hi z t c A t_n c_n tc zt zc st sc l_a sm_a) past c (datum i j) (used_datum i j) (two g K ok m0 img k0 role dead r l f s p settled i j i_l j_e act hi z t c A t_n c_n tc zt zc st sc l_a sm_a) A c_n (zc₁ g K ok m0 img k0 role dead r l f s p settled i j i_l j_e act hi z t c A t_n c_n tc zt zc st sc l_a sm_a) sc l_a sm_a
 
   knows₃ : (a b w : ℕ) → a < g.L → b < g.E → K.clus w < g.N → Known g K past y₀ dead a b w → Known g K past y₃ dead a b w
-  knows₃ a b w aL bE w_n k =
+  knows₃ a b w a_l b_e w_n k =
       knows_still g K ok past y₂ y₃ (plan₂ g K ok m0 img k0 role dead r l f s p settled i j i_l j_e act hi z t c A t_n c_n tc zt zc st sc l_a sm_a).fine.sound dead
       (inner_keep g K ok m0 img k0 (role₂ g K ok m0 img k0 role dead r l f s p settled i j i_l j_e act hi z t c A t_n c_n tc zt zc st sc l_a sm_a) dead _ _ _ (s₂ g K ok m0 img k0 role dead r l f s p settled i j i_l j_e act hi z t c A t_n c_n tc zt zc st sc l_a sm_a) (plan₂ g K ok m0 img k0 role dead r l f s p settled i j i_l j_e act hi z t c A t_n c_n tc zt zc st sc l_a sm_a) t j (K.mk c) t_n j_e (free_t₀ g K ok m0 img k0 role dead r l f s p settled i j i_l j_e act hi z t c A t_n c_n tc zt zc st sc l_a sm_a) (free_t₂ g K ok m0 img k0 role dead r l f s p settled i j i_l j_e act hi z t c A t_n c_n tc zt zc st sc l_a sm_a))
       (inner_cnt g K ok m0 img k0 (role₂ g K ok m0 img k0 role dead r l f s p settled i j i_l j_e act hi z t c A t_n c_n tc zt zc st sc l_a sm_a) dead _ _ _ (s₂ g K ok m0 img k0 role dead r l f s p settled i j i_l j_e act hi z t c A t_n c_n tc zt zc st sc l_a sm_a) (plan₂ g K ok m0 img k0 role dead r l f s p settled i j i_l j_e act hi z t c A t_n c_n tc zt zc st sc l_a sm_a) t j (K.mk c) t_n j_e (free_t₀ g K ok m0 img k0 role dead r l f s p settled i j i_l j_e act hi z t c A t_n c_n tc zt zc st sc l_a sm_a) (free_t₂ g K ok m0 img k0 role dead r l f s p settled i j i_l j_e act hi z t c A t_n c_n tc zt zc st sc l_a sm_a))
-      a b w aL bE w_n (λ y d o h. (stored₃ g K ok m0 img k0 role dead r l f s p settled i j i_l j_e act hi z t c A t_n c_n tc zt zc st sc l_a sm_a).cluster (K.clus w) o h (not_t a b w aL bE k y d)) (knows₂ a b w aL bE w_n (knows₁ a b w aL bE w_n k))
+      a b w a_l b_e w_n (λ y d o h. (stored₃ g K ok m0 img k0 role dead r l f s p settled i j i_l j_e act hi z t c A t_n c_n tc zt zc st sc l_a sm_a).cluster (K.clus w) o h (not_t a b w a_l b_e k y d)) (knows₂ a b w a_l b_e w_n (knows₁ a b w a_l b_e w_n k))
 
   -- ---- the link
   lay : Laid g (s₃ g K ok m0 img k0 role dead r l f s p settled i j i_l j_e act hi z t c A t_n c_n tc zt zc st sc l_a sm_a) (row g i) (8 * col g i) (K.mk t)
@@ -92,9 +92,9 @@ module _ (g : Geo) (K : Codec) (ok : GeoOk g K) (m0 : ℕ → ℕ → ℕ) (img 
       go b n y h (no q) = y (h ∙ ap K.clus (entry-0 g K ok m0 img k0 role dead r l f s p settled i j i_l j_e act hi z t c A t_n c_n tc zt zc st sc l_a sm_a b n q) ∙ ok.laws.zero_clus)
 
   knows₄ : (a b w : ℕ) → a < g.L → b < g.E → K.clus w < g.N → Known g K past y₀ dead a b w → Known g K past y₄ dead a b w
-  knows₄ a b w aL bE w_n k =
-      knows_link g K ok past y₃ y₄ (plan₃ g K ok m0 img k0 role dead r l f s p settled i j i_l j_e act hi z t c A t_n c_n tc zt zc st sc l_a sm_a).fine.sound dead sm i t i_l hi t_n (z₃ g K ok m0 img k0 role dead r l f s p settled i j i_l j_e act hi z t c A t_n c_n tc zt zc st sc l_a sm_a fine) stored₄ a b w aL bE w_n (knows₃ a b w aL bE w_n k)
-      (λ y d e. unnamed_still (K.clus w) (not_t a b w aL bE k y d) (not_c a b w aL bE k y d) d e)
+  knows₄ a b w a_l b_e w_n k =
+      knows_link g K ok past y₃ y₄ (plan₃ g K ok m0 img k0 role dead r l f s p settled i j i_l j_e act hi z t c A t_n c_n tc zt zc st sc l_a sm_a).fine.sound dead sm i t i_l hi t_n (z₃ g K ok m0 img k0 role dead r l f s p settled i j i_l j_e act hi z t c A t_n c_n tc zt zc st sc l_a sm_a fine) stored₄ a b w a_l b_e w_n (knows₃ a b w a_l b_e w_n k)
+      (λ y d e. unnamed_still (K.clus w) (not_t a b w a_l b_e k y d) (not_c a b w a_l b_e k y d) d e)
 
   pub hidden : Each (Hidden g K ok m0 img) ((((count_store g (mem g.C img) t 1 ∷ []) ++ fill t 0 (Z g K ok m0 img k0 role dead r l f s p settled i j i_l j_e act hi z t c A t_n c_n tc zt zc st sc l_a sm_a)) ++ ((count_store g (mem g.C img) c 1 ∷ []) ++ fill c 0 A)) ++ ((entry_store g t j (K.mk c) ∷ []) ++ []))
   unfolding entry_store

@@ -40,7 +40,7 @@ module _ (g : Geo) (K : Codec) (ok : GeoOk g K) (m0 : ℕ → ℕ → ℕ) (img 
   Shows s = (i j : ℕ) → i < g.L → j < g.E → tab g K m i ≢ 0 → (l2 g (mem g.C s) (tab g K m i) j ≡ l2 g m (tab g K m i) j) ⊎ Q i j (l2 g (mem g.C s) (tab g K m i) j)
 
   -- an entry that is stored
-  module _ (s : List ℕ) (p : Joined g K ok m0 img k0 role s) (h : Shows s) (a b v : ℕ) (aL : a < g.L) (bE : b < g.E) (lv : v < 256 ^ 8) (t : tab g K m a ≢ 0)
+  module _ (s : List ℕ) (p : Joined g K ok m0 img k0 role s) (h : Shows s) (a b v : ℕ) (a_l : a < g.L) (b_e : b < g.E) (lv : v < 256 ^ 8) (t : tab g K m a ≢ 0)
       (one : refs_of g K m (tab g K m a) ≤ 1) (q : Put g K m role a b v) (w : Q a b v) where
     abbrev x : ℕ → ℕ → ℕ
     x = mem g.C s
@@ -49,13 +49,13 @@ module _ (g : Geo) (K : Codec) (ok : GeoOk g K) (m0 : ℕ → ℕ → ℕ) (img 
     kept_tab i l d = (mix_tab g K ok m x role k0.sound p.mix i l d).1
 
     some : tab g K x a ≢ 0
-    some = tab_some g K ok m0 img k0 role s p a aL t one
+    some = tab_some g K ok m0 img k0 role s p a a_l t one
 
     alone : refs_of g K x (tab g K x a) ≤ 1
-    alone = tab_alone g K ok m0 img k0 role s p a aL t one
+    alone = tab_alone g K ok m0 img k0 role s p a a_l t one
 
     lay : Laid g s (tab g K x a) (8 * b) v
-    lay = laid_entry g K ok m0 s p.fine a b v aL bE
+    lay = laid_entry g K ok m0 s p.fine a b v a_l b_e
 
     abbrev x' : ℕ → ℕ → ℕ
     x' = mem g.C (sets s (tab g K x a * g.C + 8 * b) (enc 8 v))
@@ -65,24 +65,24 @@ module _ (g : Geo) (K : Codec) (ok : GeoOk g K) (m0 : ℕ → ℕ → ℕ) (img 
       where
         go : ((i ≡ a) × (j ≡ b)) ⊎ ((i ≢ a) ⊎ (j ≢ b)) → (l2 g x' (tab g K m i) j ≡ l2 g m (tab g K m i) j) ⊎ Q i j (l2 g x' (tab g K m i) j)
         go (inl e) =
-            let y : l2 g x' (tab g K m a) b ≡ v = ap (λ (k : ℕ). l2 g x' k b) (sym (kept_tab a aL t)) ∙ entry_new g K ok x p.fine.sound x' lay.small a b v aL bE some alone q.good lv lay.stored in
+            let y : l2 g x' (tab g K m a) b ≡ v = ap (λ (k : ℕ). l2 g x' k b) (sym (kept_tab a a_l t)) ∙ entry_new g K ok x p.fine.sound x' lay.small a b v a_l b_e some alone q.good lv lay.stored in
             rw (e.0, e.1, y) (inr w)
         go (inr e) =
             let y : l2 g x' (tab g K m i) j ≡ l2 g x (tab g K m i) j =
-            ap (λ (k : ℕ). l2 g x' k j) (sym (kept_tab i l d)) ∙ entry_l2 g K ok x p.fine.sound x' lay.small a b v aL bE some alone q.good lv lay.stored i j l n e (λ z. d (sym (kept_tab i l d) ∙ z))
+            ap (λ (k : ℕ). l2 g x' k j) (sym (kept_tab i l d)) ∙ entry_l2 g K ok x p.fine.sound x' lay.small a b v a_l b_e some alone q.good lv lay.stored i j l n e (λ z. d (sym (kept_tab i l d) ∙ z))
             ∙ ap (λ (k : ℕ). l2 g x k j) (kept_tab i l d) in
             rw y (h i j l n d)
 
     entered : Shows (apply g.C (entry_store g (tab g K m a) b v) s)
     unfolding apply entry_store
-    entered = rw (kept_tab a aL t) at shows'
+    entered = rw (kept_tab a a_l t) at shows'
 
   written_shows : (u : Store) → Written u → (s : List ℕ) → Joined g K ok m0 img k0 role s → Shows s → Shows (apply g.C u s)
   unfolding l2 link_store
-  written_shows u (joins a t aL ha t_n t0 z act free used) s p w i j l n d =
-      rw (num_cong 8 _ _ (8 * j) (λ y b e. apply-apart g.C g.N (tab g K m i) _ s (linking_fit g K ok m0 img k0 role _ (links a t aL ha t_n t0 z act free used)) p.fine.len
-      (λ h. fix_tab g.L g.E (fix g m) (tab g K m) (dat g K m) (row g a) i l (row-some g K ok m0 img k0 a aL ha) (row_one g K ok m0 img k0 a aL ha) (row-fix g K ok m a aL ha) (sym h)) y (omega (arith, ok.c8)))) (w i j l n d)
-  written_shows u (writes a b v aL bE lv t one q w) s p h i j l n d = entered s p h a b v aL bE lv t one q w i j l n d
+  written_shows u (joins a t a_l ha t_n t0 z act free used) s p w i j l n d =
+      rw (num_cong 8 _ _ (8 * j) (λ y b e. apply-apart g.C g.N (tab g K m i) _ s (linking_fit g K ok m0 img k0 role _ (links a t a_l ha t_n t0 z act free used)) p.fine.len
+      (λ h. fix_tab g.L g.E (fix g m) (tab g K m) (dat g K m) (row g a) i l (row-some g K ok m0 img k0 a a_l ha) (row_one g K ok m0 img k0 a a_l ha) (row-fix g K ok m a a_l ha) (sym h)) y (omega (arith, ok.c8)))) (w i j l n d)
+  written_shows u (writes a b v a_l b_e lv t one q w) s p h i j l n d = entered s p h a b v a_l b_e lv t one q w i j l n d
 
   both-kept : {us : List Store} → Each Written us → (cs : List Bool) (s : List ℕ) → Joined g K ok m0 img k0 role s × Shows s
       → Joined g K ok m0 img k0 role (apply_all g.C (picked cs us) s) × Shows (apply_all g.C (picked cs us) s)
@@ -102,10 +102,10 @@ module _ (g : Geo) (K : Codec) (ok : GeoOk g K) (m0 : ℕ → ℕ → ℕ) (img 
   -- no entry is stored where data lie
   data_linking : (i j : ℕ) → i < g.L → j < g.E → dat g K m₀ i j ≢ 0 → (u : Store) → Linking g K ok m0 img k0 role u → Apart g.C g.N (dat g K m₀ i j) u
   unfolding entry_store link_store
-  data_linking i j i_l j_e d u (enters a b v aL bE lv t one q) e = tab_dat g.L g.E (fix g m₀) (tab g K m₀) (dat g K m₀) a i j aL i_l j_e t one (sym e)
-  data_linking i j i_l j_e d u (links a t aL ha t_n t0 z act free used) e =
+  data_linking i j i_l j_e d u (enters a b v a_l b_e lv t one q) e = tab_dat g.L g.E (fix g m₀) (tab g K m₀) (dat g K m₀) a i j a_l i_l j_e t one (sym e)
+  data_linking i j i_l j_e d u (links a t a_l ha t_n t0 z act free used) e =
       fix_dat g.L g.E (fix g m₀) (tab g K m₀) (dat g K m₀) (row g a) i j i_l j_e
-      (row-some g K ok m0 img k0 a aL ha) (row_one g K ok m0 img k0 a aL ha) (row-fix g K ok m₀ a aL ha) (sym e)
+      (row-some g K ok m0 img k0 a a_l ha) (row_one g K ok m0 img k0 a a_l ha) (row-fix g K ok m₀ a a_l ha) (sym e)
 
   data_block : (i j : ℕ) → i < g.L → j < g.E → dat g K m₀ i j ≢ 0 → (b : ℕ) → b < g.B → dat g K m₀ i j ≢ blk g m₀ b
   data_block i j i_l j_e d b h e = data_aside g K ok m0 img k0 i j i_l j_e b h (sym e)

@@ -18,7 +18,7 @@ use Rattle.batches.proofs.Joined.{Linking, enters}
 use Rattle.batches.proofs.Lists.{Fit, Merge}
 use Rattle.batches.proofs.Stores.{Laid, laid_entry, keep_mixture, entry_mixture}
 use Rattle.batches.proofs.Planned.{Tabled, keep_tabled, Planned, lowers, blk_eq}
-use Rattle.batches.proofs.Order.{cell_at, Cell, Touch, sets as setsCount, passes, aside_cell}
+use Rattle.batches.proofs.Order.{cell_at, Cell, Touch, sets as sets_count, passes, aside_cell}
 use Rattle.batches.proofs.Extend.{Step, Grows, grow_mix, merge-all-left, merge-all-right}
 use Rattle.batches.proofs.Places.{one_table}
 
@@ -106,7 +106,7 @@ module _ (g : Geo) (K : Codec) (ok : GeoOk g K) (m0 : ℕ → ℕ → ℕ) (img 
         taken = λ a b e d. took a e d (ℕ_discrete a c);
         tables = λ t a b e. keep_tabled g K ok s (apply g.C (count_store g m c 1) s) q.keep t a (tabled t a b e (ℕ_discrete t c));
         stays = λ a b d. keep_tab g K ok x _ q.keep a b;
-        touch = also (setsCount c 1 h (one-fits g K ok m0) n) none;
+        touch = also (sets_count c 1 h (one-fits g K ok m0) n) none;
         order = λ a b. refl;
         counted = λ a b. count a b (ℕ_discrete a c);
       }

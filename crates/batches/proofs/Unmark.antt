@@ -81,10 +81,10 @@ module _ (g : Geo) (K : Codec) (ok : GeoOk g K) (m0 : ℕ → ℕ → ℕ) (img 
   plain y = ok.laws.mk_flag c in_n
 
   knows₂ : (a b w : ℕ) → a < g.L → b < g.E → K.clus w < g.N → Known g K past x dead a b w → Known g K past (mem g.C s₂) dead a b w
-  knows₂ a b w aL bE w_n k =
+  knows₂ a b w a_l b_e w_n k =
       rw same at
-      (enter_knows g K ok m0 img k0 past role dead _ _ _ s₁ planned₁ i j (K.mk c) i_l j_e (ok.laws.mk_lt c in_n) some₁ alone₁ put plain one₁ a b w aL bE w_n
-      (still_known g K ok m0 img k0 past role dead r l f s p i j 0 A i_l j_e l_a sm_a d one before_now a b w aL bE w_n k) (λ y z e. clus ∙ sym same_dat))
+      (enter_knows g K ok m0 img k0 past role dead _ _ _ s₁ planned₁ i j (K.mk c) i_l j_e (ok.laws.mk_lt c in_n) some₁ alone₁ put plain one₁ a b w a_l b_e w_n
+      (still_known g K ok m0 img k0 past role dead r l f s p i j 0 A i_l j_e l_a sm_a d one before_now a b w a_l b_e w_n k) (λ y z e. clus ∙ sym same_dat))
 
   known₂ : Known g K past (mem g.C s₂) dead i j (K.mk c)
   known₂ = rw same at (enter_known g K ok m0 img k0 past role dead _ _ _ s₁ planned₁ i j (K.mk c) i_l j_e (ok.laws.mk_lt c in_n) some₁ alone₁ put plain one₁ (rw same now))

@@ -37,7 +37,7 @@ module _ (g : Geo) (K : Codec) (ok : GeoOk g K) (m0 : ℕ → ℕ → ℕ) (img 
       → dat g K (mem g.C img) i j ≢ 0 → refs_of g K (mem g.C img) (dat g K (mem g.C img) i j) ≤ 1 → mark g K (mem g.C img) i j ≢ 0
       → SameGuest g K s (sets s (dat g K (mem g.C img) i j * g.C + o) bs)
   unfolding SameGuest
-  under_mark s p i j o bs l n h sm d one f a b y aL bE y_c = go (pair_or a b i j)
+  under_mark s p i j o bs l n h sm d one f a b y a_l b_e y_c = go (pair_or a b i j)
     where
       m : ℕ → ℕ → ℕ
       m = mem g.C img
@@ -73,7 +73,7 @@ module _ (g : Geo) (K : Codec) (ok : GeoOk g K) (m0 : ℕ → ℕ → ℕ) (img 
       f₂ z = f₁ (sym (keep_mark g K ok x x' r.0 i j l n) ∙ z)
 
       same : ((a ≡ i) × (b ≡ j)) ⊎ ((a ≢ i) ⊎ (b ≢ j)) → gread g K x' a b y ≡ gread g K x a b y
-      same (inr u) = r.2 a b y aL bE y_c u
+      same (inr u) = r.2 a b y a_l b_e y_c u
       same (inl u) = rw (u.0, u.1) (gread_marked g K x' i j y f₂ ∙ sym (gread_marked g K x i j y f₁))
 
       go : ((a ≡ i) × (b ≡ j)) ⊎ ((a ≢ i) ⊎ (b ≢ j)) → gread g K (mem g.C (sets s (dat g K m i j * g.C + o) bs)) a b y ≡ gread g K x a b y
@@ -93,5 +93,5 @@ module _ (g : Geo) (K : Codec) (ok : GeoOk g K) (m0 : ℕ → ℕ → ℕ) (img 
   unfolding SameGuest
   hidden_cut start p h cs =
       kept g.C (λ s. Prepared g K ok m0 img s × SameGuest g K start s)
-      (each_map (λ u w s q. (ready_keeps g K ok m0 img u (hidden-ready u w) s q.0, λ a b y aL bE y_c. hidden-same u w s q.0 a b y aL bE y_c ∙ q.1 a b y aL bE y_c)) h)
-      cs start (p, λ a b y aL bE y_c. refl)
+      (each_map (λ u w s q. (ready_keeps g K ok m0 img u (hidden-ready u w) s q.0, λ a b y a_l b_e y_c. hidden-same u w s q.0 a b y a_l b_e y_c ∙ q.1 a b y a_l b_e y_c)) h)
+      cs start (p, λ a b y a_l b_e y_c. refl)

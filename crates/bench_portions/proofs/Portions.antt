@@ -8,14 +8,14 @@ use Rattle.qcow2_spec.specs.Check.{check}
 use Rattle.qcow2_portions.specs.Rows.{rows_of, tables_rows, ahead, added, met, root_after, row_after, started}
 use Rattle.qcow2_portions.specs.Last.{passed_l1, passed_all, good_marks, marks_verdict, last_verdict}
 use Rattle.qcow2_portion.specs.State.{taken_rows, figures_taken, verdict_taken, taken, stepped, scratch_stepped, portioned, scratch_portioned, portion, scratch_portion}
-use Rattle.qcow2_portion.specs.Cutting.{state_after, scratch_after as scratchOver}
+use Rattle.qcow2_portion.specs.Cutting.{state_after, scratch_after as scratch_over}
 use Rattle.bench_table.proofs.Quick.{quick, quick_ok}
 use Rattle.bench_table.proofs.Table.{computing}
 use Rattle.bench_portions.specs.Portions.{tabled, second, other, Begun, Found, Ended, Kept, Empty, Whole, Taken, Bad, Changed}
 
 -- what a portion computes with, beside the bench table's
 unfoldable pub portions : Unit {0}
-unfolding computing bumped_wide bump_all_wide wide scratch_after scratch_counted scratch_left check rows_of tables_rows ahead added met root_after row_after started passed_l1 passed_all good_marks marks_verdict last_verdict taken_rows figures_taken verdict_taken taken stepped scratch_stepped portioned scratch_portioned portion scratch_portion state_after scratchOver tabled second other
+unfolding computing bumped_wide bump_all_wide wide scratch_after scratch_counted scratch_left check rows_of tables_rows ahead added met root_after row_after started passed_l1 passed_all good_marks marks_verdict last_verdict taken_rows figures_taken verdict_taken taken stepped scratch_stepped portioned scratch_portioned portion scratch_portion state_after scratch_over tabled second other
 portions = tt
 
 pub begun : Begun

@@ -21,7 +21,7 @@ use Rattle.batches.proofs.Steps.{before, among}
 use Rattle.batches.proofs.Batch.{Call, next}
 use Rattle.widths.specs.Width.{span}
 use Rattle.units.specs.Units.{UnitStore, entry}
-use Rattle.units.specs.Units.{apply_all as applyAllU}
+use Rattle.units.specs.Units.{apply_all as apply_all_u}
 use Rattle.units.specs.Plan.{stores_count}
 use Rattle.qcow2_spec.specs.Header.{most_l1, cluster_size, clusters, per_table, per_block, roots}
 use Rattle.qcow2_spec.specs.Counts.{set_count}
@@ -61,7 +61,7 @@ module _ (backing img : List ℕ) (all : List Request) (s : List ℕ) (fs : Fact
     pub b : List UnitStore
     pub c : List UnitStore
     pub sorted : Sorted s ready us a b c
-    pub state : State backing img all (geo s) (code s) (applyAllU us s) p0 (p1 ++ a) (p2 ++ b) (p3 ++ c)
+    pub state : State backing img all (geo s) (code s) (apply_all_u us s) p0 (p1 ++ a) (p2 ++ b) (p3 ++ c)
     pub early : Early backing img all (geo s) (code s) st.ok r us a
     pub like : (vs : List Store) × Like (cluster_size s) us vs
 
@@ -71,7 +71,7 @@ module _ (backing img : List ℕ) (all : List Request) (s : List ℕ) (fs : Fact
 
   pub add : (r : Request) (us a b c : List UnitStore) (role : ℕ → Use) (dead : ℕ → Type 0) (ra la fa : List Store) → Sorted s ready us a b c
       → Like (cluster_size s) a ra → Like (cluster_size s) b la → Like (cluster_size s) c fa
-      → Call (geo s) (code s) st.ok (m0 backing img all) img st.begun (Past backing img all (geo s) (code s)) st.role role st.dead dead ra la fa s (applyAllU us s)
+      → Call (geo s) (code s) st.ok (m0 backing img all) img st.begun (Past backing img all (geo s) (code s)) st.role role st.dead dead ra la fa s (apply_all_u us s)
       → ((t i : ℕ) → t < clusters s → role t ≡ table i → (st.role t ≡ table i) ⊎ ((y : ℕ) → y < cluster_size s → covers (extents a) (t * cluster_size s + y) ≡ true))
       → ((k : ℕ) → k < clusters s → dead k → st.dead k ⊎ (covers (extents c) (cell_byte k) ≡ true))
       → Early backing img all (geo s) (code s) st.ok r us a → Added r us
@@ -89,7 +89,7 @@ module _ (backing img : List ℕ) (all : List Request) (s : List ℕ) (fs : Fact
           r = st.r ++ ra;
           l = st.l ++ la;
           f = st.f ++ fa;
-          batch = next (geo s) (code s) st.ok (m0 backing img all) img st.begun (Past backing img all (geo s) (code s)) st.role role st.dead dead st.r st.l st.f ra la fa s (applyAllU us s) st.batch call;
+          batch = next (geo s) (code s) st.ok (m0 backing img all) img st.begun (Past backing img all (geo s) (code s)) st.role role st.dead dead st.r st.l st.f ra la fa s (apply_all_u us s) st.batch call;
           firsts = firsts_more st.firsts ha;
           seconds = like_append st.seconds hb;
           thirds = like_append st.thirds hc;

@@ -16,7 +16,7 @@ use Rattle.batches.proofs.Prepared.{Prepared, ready_cut}
 use Rattle.batches.proofs.Places.{old, fill-ready}
 use Rattle.batches.proofs.Unseen.{hidden_cut}
 use Rattle.units.specs.Units.{UnitStore}
-use Rattle.units.specs.Units.{apply_all as applyAllU}
+use Rattle.units.specs.Units.{apply_all as apply_all_u}
 use Rattle.units.specs.Plan.{Plan, refused, units, plan_units, stores_count}
 use Rattle.units.specs.declared.Outcome.TheVariants.{Stopped}
 use Rattle.qcow2_spec.specs.Header.{most_l1, cluster_size, disk_size, per_table, roots}
@@ -92,7 +92,7 @@ module _ (backing start img : List ℕ) (all : List Request) (bb : Bytes backing
       j = x / cluster_size u % per_table u
 
       abbrev v : List ℕ
-      v = applyAllU (picked cs a) u
+      v = apply_all_u (picked cs a) u
 
       part : MidP (geo u) (code u) (geo_ok u fu) (mem (cluster_size u) u) (beneath backing u fu (x / cluster_size u)) i j (x % cluster_size u) d u v
       part =
@@ -112,14 +112,14 @@ module _ (backing start img : List ℕ) (all : List Request) (bb : Bytes backing
       part-shots = wrote_shots backing u fu v (beneath backing u fu (x / cluster_size u)) i j (x % cluster_size u) part.1.bytes w.i_m part.1.wrote
 
     -- by the first image's header
-    overwritten : Spot (geo u) (code u) → (cs : List Bool) → Prepared (geo img) (code img) (geo_ok img f0) (mem (cluster_size img) img) img (applyAllU (picked cs a) u)
-        → At (applyAllU (picked cs a) u) × Fed (Stopped 0) false (disk_size start) (shown u) (finished (cluster_size start) (write x d) (shown u)) (shown (applyAllU (picked cs a) u))
+    overwritten : Spot (geo u) (code u) → (cs : List Bool) → Prepared (geo img) (code img) (geo_ok img f0) (mem (cluster_size img) img) img (apply_all_u (picked cs a) u)
+        → At (apply_all_u (picked cs a) u) × Fed (Stopped 0) false (disk_size start) (shown u) (finished (cluster_size start) (write x d) (shown u)) (shown (apply_all_u (picked cs a) u))
     overwritten w cs p = (
       record {
         kept = p.fine;
         keep = p.keep;
         shots = λ c b y l n q r. back backing start bb img k0 u h.kept
-            (λ (g : Geo) (K : Codec). (c b y : ℕ) → c < g.L → g.M ≤ c → b < g.E → y < g.C → gread g K (mem g.C (applyAllU (picked cs a) u)) c b y ≡ gread g K (mem g.C u) c b y) (part-shots w cs) c b y l n q r
+            (λ (g : Geo) (K : Codec). (c b y : ℕ) → c < g.L → g.M ≤ c → b < g.E → y < g.C → gread g K (mem g.C (apply_all_u (picked cs a) u)) c b y ≡ gread g K (mem g.C u) c b y) (part-shots w cs) c b y l n q r
             ∙ h.shots c b y l n q r;
       },
       mixed w cs,
@@ -155,22 +155,22 @@ module _ (backing start img : List ℕ) (all : List Request) (bb : Bytes backing
           plain = rw (← ei, ← ej, keep_mark (geo img) (code img) ok (mem (cluster_size img) img) (mem (cluster_size img) u) h.keep i j i_l j_e) plain;
         }
 
-    ready : (cs : List Bool) → Prepared (geo img) (code img) (geo_ok img f0) (mem (cluster_size img) img) img (applyAllU (picked cs a) u)
+    ready : (cs : List Bool) → Prepared (geo img) (code img) (geo_ok img f0) (mem (cluster_size img) img) img (apply_all_u (picked cs a) u)
     ready cs =
         rw (like_all (like_picked lk cs) u)
         (ready_cut (geo img) (code img) (geo_ok img f0) (mem (cluster_size img) img) img
         (fill-ready (geo img) (code img) (geo_ok img f0) (mem (cluster_size img) img) img (own backing start img k0) (λ c. unused) i j (dat (geo img) (code img) (mem (cluster_size img) img) i j) (x % cluster_size img) d i_l j_e
         (dat_in (geo img) (code img) ok (mem (cluster_size img) img) k0.sound i j i_l j_e) in_c sm (old refl some one)) cs u (prepared (geo_ok img f0) u h))
 
-    pub in_place : (p : Plan) → stores_count (plan_units p) ≡ false → (plan_units p ≡ [] → a ≡ []) → (cs : List Bool) → Leaves (write x d) p u (applyAllU (picked cs a) u)
-    unfolding plan_units cut_short Fed applyAllU SameDisk
+    pub in_place : (p : Plan) → stores_count (plan_units p) ≡ false → (plan_units p ≡ [] → a ≡ []) → (cs : List Bool) → Leaves (write x d) p u (apply_all_u (picked cs a) u)
+    unfolding plan_units cut_short Fed apply_all_u SameDisk
     in_place (refused n) q z cs = rw (z refl, picked_nil cs) (h, λ y l. refl)
     in_place (units us) q z cs =
         let w = overwritten x d sm a u h (moved backing start img k0 u h.kept (Spot x d sm a u h) here) cs (ready cs) in
-        (w.0, subst (λ (c : Bool). Fed (Stopped 0) c (disk_size start) (shown u) (finished (cluster_size start) (write x d) (shown u)) (shown (applyAllU (picked cs a) u))) (sym q) w.1)
+        (w.0, subst (λ (c : Bool). Fed (Stopped 0) c (disk_size start) (shown u) (finished (cluster_size start) (write x d) (shown u)) (shown (apply_all_u (picked cs a) u))) (sym q) w.1)
 
   pub early-step : (ok : GeoOk (geo img) (code img)) (r : Request) (p : Plan) (a : List UnitStore) → Early backing img all (geo img) (code img) ok r (plan_units p) a → (plan_units p ≡ [] → a ≡ [])
-      → (u : List ℕ) → At u → (cs : List Bool) → Leaves r p u (applyAllU (picked cs a) u)
+      → (u : List ℕ) → At u → (cs : List Bool) → Leaves r p u (apply_all_u (picked cs a) u)
   early-step ok r p a (unseen lk hid) z u h cs =
       let e = like_all (like_picked lk cs) u in
       let w = hidden_cut (geo img) (code img) ok (mem (cluster_size img) img) img u (prepared ok u h) hid cs in

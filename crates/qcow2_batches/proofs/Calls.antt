@@ -5,7 +5,7 @@ use lib.ListN.{take}
 use Rattle.cuts.proofs.Cell.{mem}
 use Rattle.cuts.proofs.Call.{Ok}
 use Rattle.units.specs.Units.{UnitStore}
-use Rattle.units.specs.Units.{apply_all as applyAllU}
+use Rattle.units.specs.Units.{apply_all as apply_all_u}
 use Rattle.qcow2_spec.specs.Header.{cluster_size}
 use Rattle.qcow2_spec.specs.Disk.{Request}
 use Rattle.qcow2_spec.specs.Steps.{Extent, extents}
@@ -26,11 +26,11 @@ use Rattle.qcow2_batches.proofs.Dropped.{emptied_added, freed-added}
 
 module _ (backing img : List ℕ) (all : List Request) (s : List ℕ) (fs : Facts s) (p0 p1 p2 p3 : List UnitStore)
     (st : State backing img all (geo s) (code s) s p0 p1 p2 p3) (ready : List Extent) (al : Alike ready (extents p1)) (was : Past backing img all (geo s) (code s) (mem (cluster_size s) s)) where
-  end : (us : List UnitStore) → ((n : ℕ) → Ok (geo s) (code s) (m0 backing img all) (applyAllU (take n us) s)) → Ok (geo s) (code s) (m0 backing img all) (applyAllU us s)
+  end : (us : List UnitStore) → ((n : ℕ) → Ok (geo s) (code s) (m0 backing img all) (apply_all_u (take n us) s)) → Ok (geo s) (code s) (m0 backing img all) (apply_all_u us s)
   end us = uncut (Ok (geo s) (code s) (m0 backing img all)) us s
 
-  pub kind_added : (r : Request) (us : List UnitStore) → Kind backing s fs r us → ((n : ℕ) → Ok (geo s) (code s) (m0 backing img all) (applyAllU (take n us) s))
-      → Past backing img all (geo s) (code s) (mem (cluster_size s) (applyAllU us s)) → Disjoint (in_phase 1 s ready us) p3
+  pub kind_added : (r : Request) (us : List UnitStore) → Kind backing s fs r us → ((n : ℕ) → Ok (geo s) (code s) (m0 backing img all) (apply_all_u (take n us) s))
+      → Past backing img all (geo s) (code s) (mem (cluster_size s) (apply_all_u us s)) → Disjoint (in_phase 1 s ready us) p3
       → Added backing img all s fs p0 p1 p2 p3 st ready al r us
   kind_added r us (nothing h e) cuts now free = nothing_added backing img all s fs p0 p1 p2 p3 st ready al _
   kind_added r us (placed sp w dn fl e) cuts now free = placed-added backing img all s fs p0 p1 p2 p3 st ready al _ _ _ _ sp w dn e now

@@ -11,7 +11,7 @@ use lib.Dec.{eqb}
 use Rattle.choice.proofs.Tests.{if_no}
 use Rattle.cuts.proofs.Run.{Store}
 use Rattle.units.specs.Units.{UnitStore}
-use Rattle.units.specs.Units.{apply as applyU, apply_all as applyAllU}
+use Rattle.units.specs.Units.{apply as apply_u, apply_all as apply_all_u}
 use Rattle.units.specs.Plan.{plan_units}
 use Rattle.units.proofs.Laws.{length-apply_all}
 use Rattle.qcow2_spec.specs.Header.{autoclear, cluster_size}
@@ -44,7 +44,7 @@ append_none [] ys e = (refl, e)
 append_none (x ∷ xs) ys e = absurd (let z : ◌≡◌ {A = ℕ} (suc (length (xs ++ ys))) 0 = ap (λ (vs : List _). length vs) e in omega arith)
 
 no_units : (backing s : List ℕ) (r : Request) → plan_units (plan_of backing s r) ≡ [] → ran backing s r ≡ s
-unfolding ran applyAllU
+unfolding ran apply_all_u
 no_units backing s r z = rw z refl
 
 -- with none, nothing is stored
@@ -61,13 +61,13 @@ all_none backing s ready (r ∷ rs) n e p =
 module _ (backing start img : List ℕ) (all : List Request) (bb : Bytes backing) (k0 : Good backing start img) where
   -- the field of t is cleared
   abbrev Zero : List ℕ → Type 0
-  Zero t = (y : List ℕ) × (t ≡ applyU clear y) × (length y ≡ length img)
+  Zero t = (y : List ℕ) × (t ≡ apply_u clear y) × (length y ≡ length img)
 
   zero_is : (t : List ℕ) → Zero t → autoclear t ≡ 0
   zero_is t z = ap autoclear z.1 ∙ zeroed backing img (fs backing start img k0) bb (own backing start img k0) z.0 z.2
 
-  zero_more : {us : List UnitStore} {vs : List Store} → Like (cluster_size img) us vs → (t : List ℕ) → Zero t → Zero (applyAllU us t)
-  zero_more {us} h t z = (applyAllU us z.0, ap (λ (y : List ℕ). applyAllU us y) z.1 ∙ clear_aside img (fs backing start img k0) h z.0, length-apply_all us z.0 ∙ z.2)
+  zero_more : {us : List UnitStore} {vs : List Store} → Like (cluster_size img) us vs → (t : List ℕ) → Zero t → Zero (apply_all_u us t)
+  zero_more {us} h t z = (apply_all_u us z.0, ap (λ (y : List ℕ). apply_all_u us y) z.1 ∙ clear_aside img (fs backing start img k0) h z.0, length-apply_all us z.0 ∙ z.2)
 
   abbrev P : ℕ → List UnitStore
   P n = batch_phase n backing img [] all
@@ -78,33 +78,33 @@ module _ (backing start img : List ℕ) (all : List Request) (bb : Bytes backing
   unfolding Held ClearedFirst
   after {us = us} h h₂ h₃ t z =
       let z₁ = zero_more h t z in
-      let z₂ = zero_more h₂ (applyAllU us t) z₁ in (
+      let z₂ = zero_more h₂ (apply_all_u us t) z₁ in (
         (λ cs n. inr (zero_is _ (zero_more (like_picked h cs) t z))),
         (
-          (λ cs n. inr (zero_is _ (zero_more (like_picked h₂ cs) (applyAllU us t) z₁))),
-          ((λ cs n. inr (zero_is _ (zero_more (like_picked h₃ cs) (applyAllU (P 2) (applyAllU us t)) z₂))), tt),
+          (λ cs n. inr (zero_is _ (zero_more (like_picked h₂ cs) (apply_all_u us t) z₁))),
+          ((λ cs n. inr (zero_is _ (zero_more (like_picked h₃ cs) (apply_all_u (P 2) (apply_all_u us t)) z₂))), tt),
         ),
       )
 
   -- with no clearing unit
   never : (p0 p1 p2 p3 : List UnitStore) → p0 ≡ [] → (autoclear img ≢ 0 → (p1 ≡ []) × (p2 ≡ []) × (p3 ≡ [])) → Held (ClearedFirst img) (λ (u : List ℕ). Unit {0}) (p0 ∷ p1 ∷ p2 ∷ p3 ∷ []) img
-  unfolding Held ClearedFirst applyAllU
+  unfolding Held ClearedFirst apply_all_u
   never p0 p1 p2 p3 e h = (
     (λ cs n. inl (rw (e, picked_nil cs) refl)),
     ((λ cs n. inl (rw (e, (h n).0, picked_nil cs) refl)), ((λ cs n. inl (rw (e, (h n).0, (h n).1, picked_nil cs) refl)), ((λ cs n. inl (rw (e, (h n).0, (h n).1, (h n).2, picked_nil cs) refl)), tt))),
   )
 
-  clear_cut : (cs : List Bool) → ClearedFirst img (applyAllU (picked cs (clear ∷ [])) img)
-  unfolding ClearedFirst applyAllU picked
+  clear_cut : (cs : List Bool) → ClearedFirst img (apply_all_u (picked cs (clear ∷ [])) img)
+  unfolding ClearedFirst apply_all_u picked
   clear_cut [] n = inl refl
   clear_cut (false ∷ cs) n = rw (picked_nil cs) (inl refl)
-  clear_cut (true ∷ cs) n = rw (picked_nil cs) (inr (zero_is (applyU clear img) (img, refl, refl)))
+  clear_cut (true ∷ cs) n = rw (picked_nil cs) (inr (zero_is (apply_u clear img) (img, refl, refl)))
 
   by_firsts : {vs ws : List Store} → Like (cluster_size img) (P 2) vs → Like (cluster_size img) (P 3) ws → {q p : List UnitStore} {r : List Store} → Firsts (cluster_size img) q p r → q ≡ P 0 → p ≡ P 1
       → Held (ClearedFirst img) (λ (u : List ℕ). Unit {0}) (q ∷ p ∷ P 2 ∷ P 3 ∷ []) img
-  unfolding Held applyAllU
+  unfolding Held apply_all_u
   by_firsts h₂ h₃ (uncleared h) e e' = never [] _ (P 2) (P 3) refl (λ n. let z = all_none backing img [] all n (sym e) in (e' ∙ z 0, z 1, z 2))
-  by_firsts h₂ h₃ (cleared h k) e e' = (clear_cut, after (like_append h k) h₂ h₃ (applyU clear img) (img, refl, refl))
+  by_firsts h₂ h₃ (cleared h k) e e' = (clear_cut, after (like_append h k) h₂ h₃ (apply_u clear img) (img, refl, refl))
 
   pub clears-first : State backing img all (geo img) (code img) (memory backing img all) (P 0) (P 1) (P 2) (P 3) → Held (ClearedFirst img) (λ (u : List ℕ). Unit {0}) (batch_phases backing img all) img
   unfolding batch_phases

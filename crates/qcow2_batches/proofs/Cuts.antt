@@ -6,11 +6,11 @@ use mathlib.Core.List.{List, [], ◌∷◌, append-nil}
 use Rattle.cuts.proofs.Cell.{mem}
 use Rattle.cuts.proofs.Step.{gread, Quiet}
 use Rattle.cuts.proofs.Run.{Store, apply_all}
-use Rattle.cuts.proofs.Run.{picked as pickedS}
+use Rattle.cuts.proofs.Run.{picked as picked_s}
 use Rattle.cuts.proofs.Call.{Ok, SameGuest}
 use Rattle.batches.proofs.Held.{held_among, held_after, held_whole, shown_among, shown-after}
 use Rattle.units.specs.Units.{UnitStore}
-use Rattle.units.specs.Units.{apply as applyU, apply_all as applyAllU}
+use Rattle.units.specs.Units.{apply as apply_u, apply_all as apply_all_u}
 use Rattle.units.specs.Plan.{plan_units}
 use Rattle.units.proofs.Laws.{apply_all_append}
 use Rattle.qcow2_spec.specs.Header.{most_l1, cluster_size, disk_size, per_table, roots}
@@ -44,14 +44,14 @@ module _ (backing start img : List ℕ) (all : List Request) (bb : Bytes backing
 
   -- ---- before the entries
   earlies_cut : (s : List ℕ) (ready : List Extent) (rs : List Request) → Earlies backing start img all bb b k0 s ready rs → (u : List ℕ) → AtU u → (cs : List Bool)
-      → AtU (applyAllU (picked cs (batch_phase 1 backing s ready rs)) u) × FedAll cut_short backing start s (shown u) rs (shown (applyAllU (picked cs (batch_phase 1 backing s ready rs)) u))
-  unfolding Earlies batch_phase FedAll SameDisk applyAllU
+      → AtU (apply_all_u (picked cs (batch_phase 1 backing s ready rs)) u) × FedAll cut_short backing start s (shown u) rs (shown (apply_all_u (picked cs (batch_phase 1 backing s ready rs)) u))
+  unfolding Earlies batch_phase FedAll SameDisk apply_all_u
   earlies_cut s ready [] e u h cs = rw (picked_nil cs) (h, λ y l. refl)
   earlies_cut s ready (r ∷ rs) e u h cs =
       let us : List UnitStore = plan_units (plan_of backing s r) in
       let a : List UnitStore = call_phase 1 s ready us in
       let vs : List UnitStore = batch_phase 1 backing (ran backing s r) (ready_after s ready us) rs in
-      let v : List ℕ = applyAllU (picked (front a cs) a) u in
+      let v : List ℕ = apply_all_u (picked (front a cs) a) u in
       let w = early-step backing start img all bb k0 e.0.0 r (plan_of backing s r) a e.0.1 (λ z. rw z (call_phase-none 1 s ready)) u h (front a cs) in
       let z = earlies_cut (ran backing s r) (ready_after s ready us) rs e.1 v w.0 (rest a cs) in
       rw (picked_append cs a vs, apply_all_append (picked (front a cs) a) (picked (rest a cs) vs) u) (z.0, (shown v, w.1, z.1))
@@ -87,62 +87,62 @@ module _ (backing start img : List ℕ) (all : List Request) (bb : Bytes backing
   first_fits = fits-same img (own backing start img k0) (λ i j o i_l j_e o_c. refl)
 
   -- ---- the autoclear field is cleared
-  clear-left : Ok (geo img) (code img) (mem (cluster_size img) img) (applyU clear img) × Quiet (geo img) (code img) (mem (cluster_size img) img) (mem (cluster_size img) (applyU clear img))
+  clear-left : Ok (geo img) (code img) (mem (cluster_size img) img) (apply_u clear img) × Quiet (geo img) (code img) (mem (cluster_size img) img) (mem (cluster_size img) (apply_u clear img))
   clear-left = wiped img (fs backing start img k0) (mem (cluster_size img) img) img (own backing start img k0)
 
-  clear-same : SameGuest (geo img) (code img) img (applyU clear img)
+  clear-same : SameGuest (geo img) (code img) img (apply_u clear img)
   unfolding SameGuest
   clear-same = clear-left.1.reads
 
-  clear_at : AtU (applyU clear img)
+  clear_at : AtU (apply_u clear img)
   unfolding SameGuest
   clear_at = record { kept = clear-left.0; keep = clear-left.1.keep; shots = λ a c x l n p q. clear-same a c x l p q }
 
   -- ---- before phase 1
-  start_cut : {q p : List UnitStore} {r : List Store} → Firsts (cluster_size img) q p r → (cs : List Bool) → Fits (applyAllU (picked cs q) img)
-  unfolding applyAllU picked
+  start_cut : {q p : List UnitStore} {r : List Store} → Firsts (cluster_size img) q p r → (cs : List Bool) → Fits (apply_all_u (picked cs q) img)
+  unfolding apply_all_u picked
   start_cut (uncleared h) cs = rw (picked_nil cs) first_fits
   start_cut (cleared h k) [] = first_fits
-  start_cut (cleared h k) (true ∷ cs) = rw (picked_nil cs) (fits-same (applyU clear img) clear-left.0 clear-same)
+  start_cut (cleared h k) (true ∷ cs) = rw (picked_nil cs) (fits-same (apply_u clear img) clear-left.0 clear-same)
   start_cut (cleared h k) (false ∷ cs) = rw (picked_nil cs) first_fits
 
-  start-at : {q p : List UnitStore} {r : List Store} → Firsts (cluster_size img) q p r → AtU (applyAllU q img)
-  unfolding applyAllU
+  start-at : {q p : List UnitStore} {r : List Store} → Firsts (cluster_size img) q p r → AtU (apply_all_u q img)
+  unfolding apply_all_u
   start-at (uncleared h) = first-at
   start-at (cleared h k) = clear_at
 
-  start-same : {q p : List UnitStore} {r : List Store} → Firsts (cluster_size img) q p r → SameDisk (disk_size start) (shown (applyAllU q img)) (shown img)
-  unfolding applyAllU SameDisk
+  start-same : {q p : List UnitStore} {r : List Store} → Firsts (cluster_size img) q p r → SameDisk (disk_size start) (shown (apply_all_u q img)) (shown img)
+  unfolding apply_all_u SameDisk
   start-same (uncleared h) = λ y l. refl
-  start-same (cleared h k) = same-shown backing start img all bb k0 img (applyU clear img) first-at clear-left.0 clear-same
+  start-same (cleared h k) = same-shown backing start img all bb k0 img (apply_u clear img) first-at clear-left.0 clear-same
 
   -- ---- the phases
   abbrev P : ℕ → List UnitStore
   P n = batch_phase n backing img [] all
 
   module _ (st : State backing img all (geo img) (code img) (memory backing img all) (P 0) (P 1) (P 2) (P 3)) (el : Earlies backing start img all bb b k0 img [] all) where
-    cut_one : (cs : List Bool) → Fits (applyAllU (picked cs (P 1)) (applyAllU (P 0) img))
+    cut_one : (cs : List Bool) → Fits (apply_all_u (picked cs (P 1)) (apply_all_u (P 0) img))
     unfolding SameDisk
     cut_one cs =
-        let w = earlies_cut img [] all el (applyAllU (P 0) img) (start-at st.firsts) cs in
+        let w = earlies_cut img [] all el (apply_all_u (P 0) img) (start-at st.firsts) cs in
         record {
           good = at-good backing start img all bb k0 _ w.0;
-          fed = fed-all-same backing start cut_short img all (shown (applyAllU (P 0) img)) (shown img) _ _ (start-same st.firsts) (λ y l. refl) w.1;
+          fed = fed-all-same backing start cut_short img all (shown (apply_all_u (P 0) img)) (shown img) _ _ (start-same st.firsts) (λ y l. refl) w.1;
         }
 
-    among : (cs : List Bool) → applyAllU (picked cs (P 2)) (applyAllU (P 1) (applyAllU (P 0) img)) ≡ apply_all (cluster_size img) (pickedS cs st.l) (apply_all (cluster_size img) st.r img)
-    among cs = like_all (like_picked st.seconds cs) _ ∙ ap (apply_all (cluster_size img) (pickedS cs st.l)) (firsts_all img (fs backing start img k0) st.firsts img)
+    among : (cs : List Bool) → apply_all_u (picked cs (P 2)) (apply_all_u (P 1) (apply_all_u (P 0) img)) ≡ apply_all (cluster_size img) (picked_s cs st.l) (apply_all (cluster_size img) st.r img)
+    among cs = like_all (like_picked st.seconds cs) _ ∙ ap (apply_all (cluster_size img) (picked_s cs st.l)) (firsts_all img (fs backing start img k0) st.firsts img)
 
-    cut_two : (cs : List Bool) → Fits (applyAllU (picked cs (P 2)) (applyAllU (P 1) (applyAllU (P 0) img)))
+    cut_two : (cs : List Bool) → Fits (apply_all_u (picked cs (P 2)) (apply_all_u (P 1) (apply_all_u (P 0) img)))
     cut_two cs =
         rw (among cs)
         (fits_by _ (held_among (geo img) (code img) st.ok (mem (cluster_size img) img) img st.begun PastIn st.role st.dead st.r st.l st.f (memory backing img all) st.batch cs)
         (λ i j i_l j_e. shown_among (geo img) (code img) st.ok (mem (cluster_size img) img) img st.begun PastIn st.role st.dead st.r st.l st.f (memory backing img all) st.batch first_past last-past cs i j i_l j_e))
 
-    entered : applyAllU (P 2) (applyAllU (P 1) (applyAllU (P 0) img)) ≡ apply_all (cluster_size img) st.l (apply_all (cluster_size img) st.r img)
+    entered : apply_all_u (P 2) (apply_all_u (P 1) (apply_all_u (P 0) img)) ≡ apply_all (cluster_size img) st.l (apply_all (cluster_size img) st.r img)
     entered = like_all st.seconds _ ∙ ap (apply_all (cluster_size img) st.l) (firsts_all img (fs backing start img k0) st.firsts img)
 
-    cut_three : (cs : List Bool) → Fits (applyAllU (picked cs (P 3)) (applyAllU (P 2) (applyAllU (P 1) (applyAllU (P 0) img))))
+    cut_three : (cs : List Bool) → Fits (apply_all_u (picked cs (P 3)) (apply_all_u (P 2) (apply_all_u (P 1) (apply_all_u (P 0) img))))
     cut_three cs =
         rw (entered, like_all (like_picked st.thirds cs) (apply_all (cluster_size img) st.l (apply_all (cluster_size img) st.r img)))
         (fits_by _ (held_after (geo img) (code img) st.ok (mem (cluster_size img) img) img st.begun PastIn st.role st.dead st.r st.l st.f (memory backing img all) st.batch cs)
@@ -153,9 +153,9 @@ module _ (backing start img : List ℕ) (all : List Request) (bb : Bytes backing
         )))
 
     -- stored whole it is the image in memory
-    pub stored : applyAllU (P 3) (applyAllU (P 2) (applyAllU (P 1) (applyAllU (P 0) img))) ≡ memory backing img all
+    pub stored : apply_all_u (P 3) (apply_all_u (P 2) (apply_all_u (P 1) (apply_all_u (P 0) img))) ≡ memory backing img all
     stored =
-        ap (λ (t : List ℕ). applyAllU (P 3) t) entered ∙ like_all st.thirds _
+        ap (λ (t : List ℕ). apply_all_u (P 3) t) entered ∙ like_all st.thirds _
         ∙ held_whole (geo img) (code img) st.ok (mem (cluster_size img) img) img st.begun PastIn st.role st.dead st.r st.l st.f (memory backing img all) st.batch
 
     pub batch_held : Held Fits (λ (t : List ℕ). t ≡ memory backing img all) (batch_phases backing img all) img

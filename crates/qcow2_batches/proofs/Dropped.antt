@@ -12,7 +12,7 @@ use Rattle.cuts.proofs.Cell.{mem}
 use Rattle.cuts.proofs.Meta.{cnt, tab}
 use Rattle.cuts.proofs.Step.{dat_in}
 use Rattle.cuts.proofs.Run.{Store, apply, apply_all, Each, each_append}
-use Rattle.cuts.proofs.Run.{none as eachNone}
+use Rattle.cuts.proofs.Run.{none as each_none}
 use Rattle.cuts.proofs.Call.{Ok, SameGuest, count_store, entry_store}
 use Rattle.batches.proofs.Steps.{before, among}
 use Rattle.batches.proofs.Unseen.{Hidden}
@@ -22,7 +22,7 @@ use Rattle.batches.proofs.Discard.{unmark, silent}
 use Rattle.batches.proofs.Discard.{discard as discard_call}
 use Rattle.batches.proofs.Batch.{Call}
 use Rattle.units.specs.Units.{UnitStore, entry}
-use Rattle.units.specs.Units.{apply_all as applyAllU}
+use Rattle.units.specs.Units.{apply_all as apply_all_u}
 use Rattle.qcow2_spec.specs.Header.{cluster_size, clusters, per_table, width}
 use Rattle.qcow2_spec.specs.Counts.{count_at, count_of, set_count}
 use Rattle.qcow2_spec.specs.Store.{cleared_entry}
@@ -65,7 +65,7 @@ module _ (backing img : List ℕ) (all : List Request) (s : List ℕ) (fs : Fact
     one : Like (cluster_size s) (entry a (cleared_entry s) ∷ []) (u ∷ [])
     one = like_entry s fs a (tab (geo s) (code s) x i) j _ _ own.at num.in_table refl own.table
 
-    stored : applyAllU (entry a (cleared_entry s) ∷ []) s ≡ s₁
+    stored : apply_all_u (entry a (cleared_entry s) ∷ []) s ≡ s₁
     unfolding apply_all
     stored = like_all one s
 
@@ -83,8 +83,8 @@ module _ (backing img : List ℕ) (all : List Request) (s : List ℕ) (fs : Fact
           (λ d. absurd (d (cleared_entry-bare s))) own.lone_data y
 
     -- of a mark with no place
-    pub emptied_added : Ok (geo s) (code s) (m0 backing img all) (applyAllU (entry a (cleared_entry s) ∷ []) s)
-        → Past backing img all (geo s) (code s) (mem (cluster_size s) (applyAllU (entry a (cleared_entry s) ∷ []) s))
+    pub emptied_added : Ok (geo s) (code s) (m0 backing img all) (apply_all_u (entry a (cleared_entry s) ∷ []) s)
+        → Past backing img all (geo s) (code s) (mem (cluster_size s) (apply_all_u (entry a (cleared_entry s) ∷ []) s))
         → Added backing img all s fs p0 p1 p2 p3 st ready al (discard c) (entry a (cleared_entry s) ∷ [])
     emptied_added kept now =
         add backing img all s fs p0 p1 p2 p3 st ready al (discard c) (entry a (cleared_entry s) ∷ []) ent.e ent.f [] st.role st.dead (before y u) (among y u) [] ent.sorted ent.firsts ent.seconds none
@@ -114,7 +114,7 @@ module _ (backing img : List ℕ) (all : List Request) (s : List ℕ) (fs : Fact
           subst (λ (v : ℕ). Like (cluster_size s) (set_count s w (count_of s w - 1) ∷ []) (count_store (geo s) (mem (cluster_size s) img) w (v - 1) ∷ [])) (sym (cnt_own s fs w in_n))
           (count_likes backing img all s fs p0 p1 p2 p3 st ready al w (count_of s w - 1) in_n)
 
-      both : applyAllU us s ≡ apply (cluster_size s) fall s₁
+      both : apply_all_u us s ≡ apply (cluster_size s) fall s₁
       unfolding apply_all
       both = like_all (like_append one counted) s
 
@@ -122,8 +122,8 @@ module _ (backing img : List ℕ) (all : List Request) (s : List ℕ) (fs : Fact
       unfolding set_count count_of
       phased = sorted_append ent.sorted (λ later h. third (falls s later (width s) (count_at s w) (count_of s w - 1) (omega arith)) ends)
 
-      pub freed-added : ((n : ℕ) → Ok (geo s) (code s) (m0 backing img all) (applyAllU (take n us) s))
-          → Past backing img all (geo s) (code s) (mem (cluster_size s) (applyAllU us s))
+      pub freed-added : ((n : ℕ) → Ok (geo s) (code s) (m0 backing img all) (apply_all_u (take n us) s))
+          → Past backing img all (geo s) (code s) (mem (cluster_size s) (apply_all_u us s))
           → Added backing img all s fs p0 p1 p2 p3 st ready al (discard c) us
       unfolding SameGuest
       freed-added cuts now =
@@ -134,7 +134,7 @@ module _ (backing img : List ℕ) (all : List Request) (s : List ℕ) (fs : Fact
           (sym both)
           (discard_call (geo s) (code s) st.ok (m0 backing img all) img st.begun (Past backing img all (geo s) (code s)) st.role st.dead st.r st.l st.f s st.batch.planned i j num.in_roots num.in_table num.active (cleared_entry s) good
           (cleared_entry-low s) (cleared_entry-bare s) own.table own.lone own.lone_data fine before_fall some y))
-          (λ t k n e. inl e) (λ k n d. go k d) (unseen (like_append ent.firsts none) (each_append (hidden fine) eachNone))
+          (λ t k n e. inl e) (λ k n d. go k d) (unseen (like_append ent.firsts none) (each_append (hidden fine) each_none))
         where
           fine : Ok (geo s) (code s) (m0 backing img all) s₁
           fine = rw stored at (cuts 1)

@@ -7,16 +7,16 @@ use mathlib.Core.Bool.{Bool, true, false}
 use mathlib.Core.List.{List, [], ◌∷◌, ◌++◌, append_assoc, append-nil}
 use Rattle.cuts.proofs.Run.{Store, apply, apply_all, apply_append, Each, none, also}
 use Rattle.units.specs.Units.{UnitStore}
-use Rattle.units.specs.Units.{apply as applyU, apply_all as applyAllU}
+use Rattle.units.specs.Units.{apply as apply_u, apply_all as apply_all_u}
 use Rattle.units.proofs.Laws.{apply_all_append}
 use Rattle.choice.proofs.Tests.{or-true}
 use Rattle.qcow2_spec.specs.Header.{cluster_size}
-use Rattle.qcow2_spec.specs.Flush.{picked as pickedU}
+use Rattle.qcow2_spec.specs.Flush.{picked as picked_u}
 use Rattle.qcow2_spec.specs.Steps.{extents, covers}
 use Rattle.qcow2_spec.proofs.Facts.{Facts}
 use Rattle.qcow2_spec.proofs.Plans.{clear, clear_store, clear-is, clear_aside}
 use Rattle.qcow2_spec.proofs.Units.{Like, like_append, like_all, like_covers}
-use Rattle.qcow2_spec.proofs.Units.{none as likeNone}
+use Rattle.qcow2_spec.proofs.Units.{none as like_none}
 use Rattle.qcow2_batches.proofs.Covers.{covers-units}
 
 -- ---- picked units of two lists
@@ -31,8 +31,8 @@ front [] cs = []
 front (u ∷ us) [] = []
 front (u ∷ us) (c ∷ cs) = c ∷ front us cs
 
-pub picked_append : (cs : List Bool) (us vs : List UnitStore) → pickedU cs (us ++ vs) ≡ pickedU (front us cs) us ++ pickedU (rest us cs) vs
-unfolding pickedU rest front
+pub picked_append : (cs : List Bool) (us vs : List UnitStore) → picked_u cs (us ++ vs) ≡ picked_u (front us cs) us ++ picked_u (rest us cs) vs
+unfolding picked_u rest front
 picked_append cs [] vs = refl
 picked_append [] (u ∷ us) vs = refl
 picked_append (true ∷ cs) (u ∷ us) vs = ap (λ (ws : List UnitStore). u ∷ ws) (picked_append cs us vs)
@@ -53,13 +53,13 @@ firsts_more {C} {us = us} {vs = ws} (cleared {us = xs} {vs = ys} {a = a} {b = b}
     (subst (λ (l : List Store). Firsts C (clear ∷ []) (xs ++ (ys ++ us)) l) (sym (append_assoc a (clear_store ∷ b) ws)) (cleared h (like_append h' k)))
 
 pub firsts_clear : {C : ℕ} {us : List UnitStore} {r : List Store} → Like C us r → Firsts C (clear ∷ []) us (r ++ clear_store ∷ [])
-firsts_clear {C} {us} {r} h = subst (λ (l : List UnitStore). Firsts C (clear ∷ []) l (r ++ clear_store ∷ [])) (append-nil us) (cleared h likeNone)
+firsts_clear {C} {us} {r} h = subst (λ (l : List UnitStore). Firsts C (clear ∷ []) l (r ++ clear_store ∷ [])) (append-nil us) (cleared h like_none)
 
-pub firsts_all : (s : List ℕ) (f : Facts s) {p0 p1 : List UnitStore} {r : List Store} → Firsts (cluster_size s) p0 p1 r → (t : List ℕ) → applyAllU p1 (applyAllU p0 t) ≡ apply_all (cluster_size s) r t
-unfolding applyAllU apply_all
+pub firsts_all : (s : List ℕ) (f : Facts s) {p0 p1 : List UnitStore} {r : List Store} → Firsts (cluster_size s) p0 p1 r → (t : List ℕ) → apply_all_u p1 (apply_all_u p0 t) ≡ apply_all (cluster_size s) r t
+unfolding apply_all_u apply_all
 firsts_all s f (uncleared h) t = like_all h t
 firsts_all s f (cleared {us = us} {vs = vs} {a = a} {b = b} h k) t =
-    apply_all_append us vs (applyU clear t) ∙ ap (λ (x : List ℕ). applyAllU vs x) (clear_aside s f h t ∙ clear-is (cluster_size s) _ ∙ ap (apply (cluster_size s) clear_store) (like_all h t)) ∙ like_all k _
+    apply_all_append us vs (apply_u clear t) ∙ ap (λ (x : List ℕ). apply_all_u vs x) (clear_aside s f h t ∙ clear-is (cluster_size s) _ ∙ ap (apply (cluster_size s) clear_store) (like_all h t)) ∙ like_all k _
     ∙ sym (apply_append (cluster_size s) a (clear_store ∷ b) t)
 
 -- ---- which bytes they store to

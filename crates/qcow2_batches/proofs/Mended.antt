@@ -11,13 +11,13 @@ use lib.ListN.{get_or}
 use Rattle.cuts.proofs.Cell.{mem}
 use Rattle.cuts.proofs.Meta.{cnt, refs_of}
 use Rattle.cuts.proofs.Run.{Store, apply_all}
-use Rattle.cuts.proofs.Run.{none as eachNone}
+use Rattle.cuts.proofs.Run.{none as each_none}
 use Rattle.cuts.proofs.Call.{cnt_small}
 use Rattle.batches.proofs.Repairs.{Fall, fall_units, lowered, Covers, no_more, one_more}
 use Rattle.batches.proofs.Batch.{Call}
 use Rattle.batches.proofs.Mend.{mend}
 use Rattle.units.specs.Units.{UnitStore}
-use Rattle.units.specs.Units.{apply_all as applyAllU}
+use Rattle.units.specs.Units.{apply_all as apply_all_u}
 use Rattle.qcow2_spec.specs.Header.{cluster_size, clusters, width}
 use Rattle.qcow2_spec.specs.Counts.{count_at, count_of, set_count}
 use Rattle.qcow2_spec.specs.References.{figures_of}
@@ -38,11 +38,11 @@ module _ (backing img : List ℕ) (all : List Request) (s : List ℕ) (fs : Fact
     (st : State backing img all (geo s) (code s) s p0 p1 p2 p3) (ready : List Extent) (al : Alike ready (extents p1)) where
   -- no unit
   pub nothing_added : (r : Request) → Added backing img all s fs p0 p1 p2 p3 st ready al r []
-  unfolding applyAllU apply_all fall_units lowered
+  unfolding apply_all_u apply_all fall_units lowered
   nothing_added r =
       add backing img all s fs p0 p1 p2 p3 st ready al r [] [] [] [] st.role st.dead [] [] [] ends none none none
       (mend (geo s) (code s) st.ok (m0 backing img all) img st.begun (Past backing img all (geo s) (code s)) st.role [] st.dead st.r st.l st.f s st.batch.planned no_more)
-      (λ t i n e. inl e) (λ k n d. inl d) (unseen none eachNone)
+      (λ t i n e. inl e) (λ k n d. inl d) (unseen none each_none)
 
   -- ---- the counts that a repair sets
   abbrev units_of : List Fall → List Store
@@ -112,7 +112,7 @@ module _ (backing img : List ℕ) (all : List Request) (s : List ℕ) (fs : Fact
       (λ (t : List ℕ). Call (geo s) (code s) st.ok (m0 backing img all) img st.begun (Past backing img all (geo s) (code s)) st.role st.role st.dead (dead_after h.list st.dead) [] [] (units_of h.list) s t)
       (sym (like_all h.like s))
       (mend (geo s) (code s) st.ok (m0 backing img all) img st.begun (Past backing img all (geo s) (code s)) st.role h.list st.dead st.r st.l st.f s st.batch.planned h.enough))
-      (λ t i k e. inl e) (λ k l d. h.lowers st.dead k d) (unseen none eachNone)
+      (λ t i k e. inl e) (λ k l d. h.lowers st.dead k d) (unseen none each_none)
     where
       us : List UnitStore
       us = repair_units s (figures_of s) 0 (clusters s)

@@ -16,7 +16,7 @@ use Rattle.batches.proofs.Steps.{assign, before, among}
 use Rattle.batches.proofs.Batch.{Call}
 use Rattle.batches.proofs.Alloc.{alloc, hidden, was_table}
 use Rattle.units.specs.Units.{UnitStore, entry}
-use Rattle.units.specs.Units.{apply_all as applyAllU}
+use Rattle.units.specs.Units.{apply_all as apply_all_u}
 use Rattle.qcow2_spec.specs.Header.{cluster_size, clusters, per_table}
 use Rattle.qcow2_spec.specs.Entries.{new_entry}
 use Rattle.qcow2_spec.specs.Store.{allot}
@@ -27,7 +27,7 @@ use Rattle.qcow2_spec.proofs.Geo.{nr, geo, code}
 use Rattle.qcow2_spec.proofs.Extents.{Disjoint}
 use Rattle.qcow2_spec.proofs.Kind.{D, Owned, Whole, Numbered, numbered}
 use Rattle.qcow2_spec.proofs.Units.{Like, Off, like_append, like_all, like_covers, like_entry, off_new}
-use Rattle.qcow2_spec.proofs.Units.{none as likeNone}
+use Rattle.qcow2_spec.proofs.Units.{none as like_none}
 use Rattle.qcow2_batches.specs.Batch.{in_phase}
 use Rattle.qcow2_batches.proofs.Covers.{Alike, covers-left}
 use Rattle.qcow2_batches.proofs.Sorted.{Sorted, After, sorted_then}
@@ -93,13 +93,13 @@ module _ (backing img : List ℕ) (all : List Request) (s : List ℕ) (fs : Fact
     abbrev last : List ℕ
     last = apply (cluster_size s) u (apply_all (cluster_size s) (fill c 0 bs) (apply (cluster_size s) (count_store (geo s) mi c 1) s))
 
-    is_last : applyAllU us s ≡ last
+    is_last : apply_all_u us s ≡ last
     unfolding apply_all
     is_last =
         like_all (like_append ha (like_entry s fs a _ j _ _ own.at num.in_table refl own.table)) s
         ∙ apply_append (cluster_size s) (count_store (geo s) mi c 1 ∷ fill c 0 bs) (u ∷ []) s
 
-    module _ (kept : Ok (geo s) (code s) (m0 backing img all) (applyAllU us s)) (now : Past backing img all (geo s) (code s) (mem (cluster_size s) (applyAllU us s)))
+    module _ (kept : Ok (geo s) (code s) (m0 backing img all) (apply_all_u us s)) (now : Past backing img all (geo s) (code s) (mem (cluster_size s) (apply_all_u us s)))
         (free : Disjoint (in_phase 1 s ready us) p3) where
       fine_last : Ok (geo s) (code s) (m0 backing img all) last
       fine_last = subst (Ok (geo s) (code s) (m0 backing img all)) is_last kept
@@ -113,7 +113,7 @@ module _ (backing img : List ℕ) (all : List Request) (s : List ℕ) (fs : Fact
       pub new_added : Added backing img all s fs p0 p1 p2 p3 st ready al (write y d) us
       new_added =
           add backing img all s fs p0 p1 p2 p3 st ready al (write y d) us (allot s c bs ++ en.e) en.f [] (assign st.role c (datum i j)) st.dead
-          ((count_store (geo s) mi c 1 ∷ fill c 0 bs) ++ before old u) (among old u) [] sorts (like_append ha en.firsts) en.seconds likeNone
+          ((count_store (geo s) mi c 1 ∷ fill c 0 bs) ++ before old u) (among old u) [] sorts (like_append ha en.firsts) en.seconds like_none
           (subst (Call (geo s) (code s) st.ok (m0 backing img all) img st.begun (Past backing img all (geo s) (code s)) st.role (assign st.role c (datum i j)) st.dead st.dead _ _ _ s) (sym is_last)
           (alloc (geo s) (code s) st.ok (m0 backing img all) img st.begun (Past backing img all (geo s) (code s)) st.role st.dead st.r st.l st.f s st.batch.planned i j num.in_roots num.in_table num.active c bs c_n zero-count (spared free) l_a whole.small own.table own.lone bare fine_last now_last old))
           (λ t k n e. inl (was_table (geo s) (code s) st.ok (m0 backing img all) img st.begun (Past backing img all (geo s) (code s)) st.role st.dead st.r st.l st.f s st.batch.planned i j num.in_roots num.in_table num.active c bs c_n zero-count (spared free) l_a whole.small own.table own.lone bare fine_last now_last t k e (ℕ_discrete t c)))

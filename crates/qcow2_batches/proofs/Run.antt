@@ -12,14 +12,14 @@ use Rattle.choice.proofs.Tests.{if_yes, if_no, two_ways}
 use Rattle.cuts.proofs.Cell.{mem}
 use Rattle.cuts.proofs.Step.{Quiet}
 use Rattle.cuts.proofs.Run.{Store, apply}
-use Rattle.cuts.proofs.Run.{none as eachNone}
+use Rattle.cuts.proofs.Run.{none as each_none}
 use Rattle.cuts.proofs.Call.{Ok}
 use Rattle.batches.proofs.Batch.{next}
 use Rattle.batches.proofs.Clear.{clears}
 use Rattle.endian.specs.Big.{bytes64}
 use Rattle.endian.proofs.Laws.{length-bytes64}
 use Rattle.units.specs.Units.{UnitStore}
-use Rattle.units.specs.Units.{apply as applyU, apply_all as applyAllU}
+use Rattle.units.specs.Units.{apply as apply_u, apply_all as apply_all_u}
 use Rattle.units.specs.Plan.{Plan, refused, units, plan_units, stores_count}
 use Rattle.units.proofs.Laws.{length-apply_all, apply_all_append}
 use Rattle.qcow2_spec.specs.Header.{autoclear_at, autoclear, cluster_size}
@@ -36,7 +36,7 @@ use Rattle.qcow2_spec.proofs.Kind.{Kind, KindOf}
 use Rattle.qcow2_spec.proofs.Plans.{clear, clear_store, clear-is, clear-bytes, clear_aside, Mid, End, Fine, Asides, whole_aside, untouched, fine_kind, zeroed}
 use Rattle.qcow2_spec.proofs.Plans.{cleared as wiped}
 use Rattle.qcow2_spec.proofs.Units.{Like}
-use Rattle.qcow2_spec.proofs.Units.{none as likeNone}
+use Rattle.qcow2_spec.proofs.Units.{none as like_none}
 use Rattle.qcow2_spec.proofs.Series.{Good, fs, own}
 use Rattle.qcow2_batches.specs.Batch.{in_phase, call_phase}
 use Rattle.qcow2_batches.proofs.Covers.{Alike}
@@ -47,17 +47,17 @@ use Rattle.qcow2_batches.proofs.Added.{Early, unseen, visible, Added}
 use Rattle.qcow2_batches.proofs.Goods.{ok_after}
 
 -- it may be cleared before all units as well as after them
-all_aside : (backing s : List ℕ) (f : Facts s) (es : List (List UnitStore)) → Asides backing s f es → (t : List ℕ) → applyAllU (joined es) (applyU clear t) ≡ applyU clear (applyAllU (joined es) t)
-unfolding joined Asides applyAllU
+all_aside : (backing s : List ℕ) (f : Facts s) (es : List (List UnitStore)) → Asides backing s f es → (t : List ℕ) → apply_all_u (joined es) (apply_u clear t) ≡ apply_u clear (apply_all_u (joined es) t)
+unfolding joined Asides apply_all_u
 all_aside backing s f [] h t = refl
 all_aside backing s f (us ∷ es) h t =
-    apply_all_append us (joined es) (applyU clear t) ∙ ap (λ (y : List ℕ). applyAllU (joined es) y) (whole_aside backing s f us t h.0) ∙ all_aside backing s f es h.1 (applyAllU us t)
-    ∙ sym (ap (applyU clear) (apply_all_append us (joined es) t))
+    apply_all_append us (joined es) (apply_u clear t) ∙ ap (λ (y : List ℕ). apply_all_u (joined es) y) (whole_aside backing s f us t h.0) ∙ all_aside backing s f es h.1 (apply_all_u us t)
+    ∙ sym (ap (apply_u clear) (apply_all_append us (joined es) t))
 
 -- the autoclear field is cleared at most once in a batch
 pub data Clearing : (p0 : List UnitStore) (s : List ℕ) → Type 0 where
   not_yet : {s : List ℕ} → Clearing [] s
-  cleared : {s : List ℕ} (t : List ℕ) → s ≡ applyU clear t → Clearing (clear ∷ []) s
+  cleared : {s : List ℕ} (t : List ℕ) → s ≡ apply_u clear t → Clearing (clear ∷ []) s
 
 module _ (backing start img : List ℕ) (all : List Request) (bb : Bytes backing) (s : List ℕ) (k : Good backing start s) where
   abbrev m₀ : ℕ → ℕ → ℕ
@@ -68,20 +68,20 @@ module _ (backing start img : List ℕ) (all : List Request) (bb : Bytes backing
 
   -- ---- every smooth cut of a list of some kind is fine
   module _ (r : Request) (us : List UnitStore) (kind : Kind backing s (fs backing start s k) r us) (fine : Ok (geo s) (code s) m₀ s) where
-    pub smooth : (n : ℕ) → Ok (geo s) (code s) m₀ (applyAllU (take n us) s)
+    pub smooth : (n : ℕ) → Ok (geo s) (code s) m₀ (apply_all_u (take n us) s)
     unfolding Fine
     smooth n =
         let f = fs backing start s k in
         let o = own backing start s k in
         let h : Fine backing s f r (units us) = fine_kind backing s f bb o kind in
-        let q : Mid backing s f r (stores_count us) (applyAllU (loosely (halves us) n []) s) =
+        let q : Mid backing s f r (stores_count us) (apply_all_u (loosely (halves us) n []) s) =
         held_cut (Mid backing s f r (stores_count us)) (End backing s f r) (halves us) s (untouched backing s f bb o r (stores_count us)) h.0 n [] in
         ok_after (geo s) (code s) m₀ s _ fine
-        (subst (λ (vs : List UnitStore). Ok (geo s) (code s) (mem (cluster_size s) s) (applyAllU vs s)) (loosely-none (halves us) n ∙ ap (take n) (halves-whole us)) q.0)
+        (subst (λ (vs : List UnitStore). Ok (geo s) (code s) (mem (cluster_size s) s) (apply_all_u vs s)) (loosely-none (halves us) n ∙ ap (take n) (halves-whole us)) q.0)
 
   -- ---- the request
   module _ (r : Request) (p0 p1 p2 p3 : List UnitStore) (st : State backing img all (geo s) (code s) s p0 p1 p2 p3) (ready : List Extent) (al : Alike ready (extents p1)) (cl : Clearing p0 s)
-      (added : (us : List UnitStore) → Kind backing s (fs backing start s k) r us → ((n : ℕ) → Ok (geo s) (code s) m₀ (applyAllU (take n us) s)) → PastAt (applyAllU us s) → Disjoint (in_phase 1 s ready us) p3
+      (added : (us : List UnitStore) → Kind backing s (fs backing start s k) r us → ((n : ℕ) → Ok (geo s) (code s) m₀ (apply_all_u (take n us) s)) → PastAt (apply_all_u us s) → Disjoint (in_phase 1 s ready us) p3
       → Added backing img all s (fs backing start s k) p0 p1 p2 p3 st ready al r us) where
     -- with its list us, which leaves t
     pub record Ran (us : List UnitStore) (t : List ℕ) : Type 1 where
@@ -91,13 +91,13 @@ module _ (backing start img : List ℕ) (all : List Request) (bb : Bytes backing
 
     -- a field that is not zero was not cleared
     uncleared : {q : List UnitStore} {y : List ℕ} → Clearing q y → autoclear y ≢ 0 → length y ≡ length s → q ≡ []
-    unfolding applyAllU
+    unfolding apply_all_u
     uncleared not_yet n e = refl
     uncleared (cleared t e) n l =
         absurd (n (ap autoclear e ∙ zeroed backing s (fs backing start s k) bb (own backing start s k) t (sym (length-apply_all (clear ∷ []) t) ∙ ap (λ (y : List ℕ). length y) (sym e) ∙ l)))
 
     -- it is cleared
-    clear_state : (y : List ℕ) (q1 q2 q3 : List UnitStore) → State backing img all (geo s) (code s) y p0 q1 q2 q3 → p0 ≡ [] → State backing img all (geo s) (code s) (applyU clear y) (p0 ++ clear ∷ []) q1 q2 q3
+    clear_state : (y : List ℕ) (q1 q2 q3 : List UnitStore) → State backing img all (geo s) (code s) y p0 q1 q2 q3 → p0 ≡ [] → State backing img all (geo s) (code s) (apply_u clear y) (p0 ++ clear ∷ []) q1 q2 q3
     clear_state y q1 q2 q3 w e =
         record {
           ok = w.ok;
@@ -133,21 +133,21 @@ module _ (backing start img : List ℕ) (all : List Request) (bb : Bytes backing
     ran-none : Ran [] s
     ran-none =
         ran_by [] s [] [] [] [] (call_phase-none 0 s ready) (call_phase-none 1 s ready) (call_phase-none 2 s ready) (call_phase-none 3 s ready)
-        (rw (append-nil p0, append-nil p1, append-nil p2, append-nil p3) st) (rw (append-nil p0) cl) (unseen likeNone eachNone)
+        (rw (append-nil p0, append-nil p1, append-nil p2, append-nil p3) st) (rw (append-nil p0) cl) (unseen like_none each_none)
 
     module _ (us : List UnitStore) (kind : Kind backing s (fs backing start s k) r us) where
-      smooths : (n : ℕ) → Ok (geo s) (code s) m₀ (applyAllU (take n us) s)
+      smooths : (n : ℕ) → Ok (geo s) (code s) m₀ (apply_all_u (take n us) s)
       smooths = smooth r us kind st.batch.planned.fine
 
-      fine : Ok (geo s) (code s) m₀ (applyAllU us s)
+      fine : Ok (geo s) (code s) m₀ (apply_all_u us s)
       fine = uncut (Ok (geo s) (code s) m₀) us s smooths
 
-      still_clear : {vs : List Store} → Like (cluster_size s) us vs → {q : List UnitStore} {y : List ℕ} → Clearing q y → Clearing (q ++ []) (applyAllU us y)
+      still_clear : {vs : List Store} → Like (cluster_size s) us vs → {q : List UnitStore} {y : List ℕ} → Clearing q y → Clearing (q ++ []) (apply_all_u us y)
       still_clear h not_yet = not_yet
-      still_clear h (cleared t e) = cleared (applyAllU us t) (ap (λ (y : List ℕ). applyAllU us y) e ∙ clear_aside s (fs backing start s k) h t)
+      still_clear h (cleared t e) = cleared (apply_all_u us t) (ap (λ (y : List ℕ). apply_all_u us y) e ∙ clear_aside s (fs backing start s k) h t)
 
       -- the field is zero
-      ran-plain : autoclear s ≡ 0 → PastAt (applyAllU us s) → Disjoint (call_phase 1 s ready us) p3 → Ran us (applyAllU us s)
+      ran-plain : autoclear s ≡ 0 → PastAt (apply_all_u us s) → Disjoint (call_phase 1 s ready us) p3 → Ran us (apply_all_u us s)
       unfolding call_phase clear_units
       ran-plain z now free =
           let e : length (clear_units s) ≡ 0 = rw z refl in
@@ -156,40 +156,40 @@ module _ (backing start img : List ℕ) (all : List Request) (bb : Bytes backing
           ran_by us _ [] w.a w.b w.c (rw e refl) (rw e q.0) (rw e q.1) (rw e q.2) (rw (append-nil p0) w.state) (still_clear w.like.1 cl) w.early
 
       -- the field is not zero: it is cleared first, or as well last
-      last : (t : List ℕ) → applyAllU us (applyU clear t) ≡ applyU clear (applyAllU us t)
+      last : (t : List ℕ) → apply_all_u us (apply_u clear t) ≡ apply_u clear (apply_all_u us t)
       unfolding Fine
       last t =
           let f = fs backing start s k in
           let h : Fine backing s f r (units us) = fine_kind backing s f bb (own backing start s k) kind in
-          subst (λ (vs : List UnitStore). applyAllU vs (applyU clear t) ≡ applyU clear (applyAllU vs t)) (halves-whole us) (all_aside backing s f (halves us) h.1 t)
+          subst (λ (vs : List UnitStore). apply_all_u vs (apply_u clear t) ≡ apply_u clear (apply_all_u vs t)) (halves-whole us) (all_aside backing s f (halves us) h.1 t)
 
-      ran-clear : autoclear s ≢ 0 → PastAt (applyAllU us (applyU clear s)) → Disjoint (call_phase 1 s ready (clear ∷ us)) p3 → Ran (clear ∷ us) (applyAllU us (applyU clear s))
+      ran-clear : autoclear s ≢ 0 → PastAt (apply_all_u us (apply_u clear s)) → Disjoint (call_phase 1 s ready (clear ∷ us)) p3 → Ran (clear ∷ us) (apply_all_u us (apply_u clear s))
       unfolding call_phase clear_units
       ran-clear n now free =
           let e : length (clear_units s) ≡ 1 = ap (λ (vs : List UnitStore). length vs) (if_no (eqb (autoclear s) 0) [] (clear ∷ []) (ne_eqb _ _ n)) in
-          let y : List ℕ = applyAllU us s in
-          let q : Quiet (geo s) (code s) (mem (cluster_size s) y) (mem (cluster_size s) (applyU clear y)) = (wiped s (fs backing start s k) m₀ y fine).1 in
+          let y : List ℕ = apply_all_u us s in
+          let q : Quiet (geo s) (code s) (mem (cluster_size s) y) (mem (cluster_size s) (apply_u clear y)) = (wiped s (fs backing start s k) m₀ y fine).1 in
           let before : PastAt y = past_same backing img all (geo s) (code s) _ _ (λ i j o i_l j_e o_c. sym (q.reads i j o i_l j_e o_c)) (rw (last s) at now) in
           let w = added us kind smooths before (rw e at free) in
           let z : p0 ≡ [] = uncleared cl n refl in
           let h = sorted_in w.sorted in
           rw (last s)
-          (ran_by (clear ∷ us) (applyU clear y) (clear ∷ []) w.a w.b w.c (rw e refl) (rw e h.0) (rw e h.1) (rw e h.2)
+          (ran_by (clear ∷ us) (apply_u clear y) (clear ∷ []) w.a w.b w.c (rw e refl) (rw e h.0) (rw e h.1) (rw e h.2)
           (clear_state y (p1 ++ w.a) (p2 ++ w.b) (p3 ++ w.c) w.state z) (rw z (cleared y refl)) (early-clear w.early))
 
     -- any plan
-    pub run_plan : (p : Plan) → KindOf backing s (fs backing start s k) r p → PastAt (applyAllU (plan_units (clearing s p)) s) → Disjoint (call_phase 1 s ready (plan_units (clearing s p))) p3
-        → Ran (plan_units (clearing s p)) (applyAllU (plan_units (clearing s p)) s)
-    unfolding KindOf plan_units clearing clear_units applyAllU
+    pub run_plan : (p : Plan) → KindOf backing s (fs backing start s k) r p → PastAt (apply_all_u (plan_units (clearing s p)) s) → Disjoint (call_phase 1 s ready (plan_units (clearing s p))) p3
+        → Ran (plan_units (clearing s p)) (apply_all_u (plan_units (clearing s p)) s)
+    unfolding KindOf plan_units clearing clear_units apply_all_u
     run_plan (refused n) h now free = ran-none
     run_plan (units []) h now free = ran-none
     run_plan (units (u ∷ us)) h now free = go (two_ways (eqb (autoclear s) 0)) now free
       where
-        go : (eqb (autoclear s) 0 ≡ true) ⊎ (eqb (autoclear s) 0 ≡ false) → PastAt (applyAllU (clear_units s ++ u ∷ us) s) → Disjoint (call_phase 1 s ready (clear_units s ++ u ∷ us)) p3
-            → Ran (clear_units s ++ u ∷ us) (applyAllU (clear_units s ++ u ∷ us) s)
+        go : (eqb (autoclear s) 0 ≡ true) ⊎ (eqb (autoclear s) 0 ≡ false) → PastAt (apply_all_u (clear_units s ++ u ∷ us) s) → Disjoint (call_phase 1 s ready (clear_units s ++ u ∷ us)) p3
+            → Ran (clear_units s ++ u ∷ us) (apply_all_u (clear_units s ++ u ∷ us) s)
         go (inl e) =
-            subst (λ (c : List UnitStore). PastAt (applyAllU (c ++ u ∷ us) s) → Disjoint (call_phase 1 s ready (c ++ u ∷ us)) p3 → Ran (c ++ u ∷ us) (applyAllU (c ++ u ∷ us) s))
+            subst (λ (c : List UnitStore). PastAt (apply_all_u (c ++ u ∷ us) s) → Disjoint (call_phase 1 s ready (c ++ u ∷ us)) p3 → Ran (c ++ u ∷ us) (apply_all_u (c ++ u ∷ us) s))
             (sym (if_yes (eqb (autoclear s) 0) [] (clear ∷ []) e)) (ran-plain (u ∷ us) h (eqb-true _ _ e))
         go (inr e) =
-            subst (λ (c : List UnitStore). PastAt (applyAllU (c ++ u ∷ us) s) → Disjoint (call_phase 1 s ready (c ++ u ∷ us)) p3 → Ran (c ++ u ∷ us) (applyAllU (c ++ u ∷ us) s))
+            subst (λ (c : List UnitStore). PastAt (apply_all_u (c ++ u ∷ us) s) → Disjoint (call_phase 1 s ready (c ++ u ∷ us)) p3 → Ran (c ++ u ∷ us) (apply_all_u (c ++ u ∷ us) s))
             (sym (if_no (eqb (autoclear s) 0) [] (clear ∷ []) e)) (ran-clear (u ∷ us) h (eqb-false _ _ e))

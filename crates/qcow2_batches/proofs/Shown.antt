@@ -10,7 +10,7 @@ use lib.ListN.{length, replicate}
 use Rattle.cuts.proofs.Cell.{Small, mem}
 use Rattle.cuts.proofs.Meta.{tab}
 use Rattle.cuts.proofs.Run.{Store, apply, apply_all, apply_append, fill, Each, each_append}
-use Rattle.cuts.proofs.Run.{also as eachAlso}
+use Rattle.cuts.proofs.Run.{also as each_also}
 use Rattle.cuts.proofs.Step.{dat_in}
 use Rattle.cuts.proofs.Call.{Ok, SameGuest, entry_store}
 use Rattle.cuts.proofs.Write.{small_around}
@@ -24,7 +24,7 @@ use Rattle.batches.proofs.Marks.{value}
 use Rattle.batches.proofs.Enter.{enter_early}
 use Rattle.batches.proofs.Unmark.{filled, unmarked}
 use Rattle.units.specs.Units.{UnitStore, entry, cluster}
-use Rattle.units.specs.Units.{apply_all as applyAllU, fill as fillU}
+use Rattle.units.specs.Units.{apply_all as apply_all_u, fill as fill_u}
 use Rattle.units.proofs.Laws.{length-cluster}
 use Rattle.qcow2_spec.specs.Header.{cluster_size, clusters, per_table}
 use Rattle.qcow2_spec.specs.Entries.{new_entry}
@@ -43,8 +43,8 @@ module _ (backing img : List ℕ) (all : List Request) (s : List ℕ) (fs : Fact
     (st : State backing img all (geo s) (code s) s p0 p1 p2 p3) (ready : List Extent) (al : Alike ready (extents p1)) where
   module _ (x : ℕ) (d : List ℕ) (a at : ℕ) (sp : Span backing s fs x d) (ow : Owned backing s fs (x / cluster_size s) a) (some : D backing s fs (x / cluster_size s) ≢ 0)
       (marked : M backing s fs (x / cluster_size s) ≢ 0) (is : at ≡ D backing s fs (x / cluster_size s) * cluster_size s)
-      (kept : Ok (geo s) (code s) (m0 backing img all) (applyAllU (fillU at (cluster (cluster_size s) (x % cluster_size s) d) ++ entry a (new_entry at) ∷ []) s))
-      (now : Past backing img all (geo s) (code s) (mem (cluster_size s) (applyAllU (fillU at (cluster (cluster_size s) (x % cluster_size s) d) ++ entry a (new_entry at) ∷ []) s)))
+      (kept : Ok (geo s) (code s) (m0 backing img all) (apply_all_u (fill_u at (cluster (cluster_size s) (x % cluster_size s) d) ++ entry a (new_entry at) ∷ []) s))
+      (now : Past backing img all (geo s) (code s) (mem (cluster_size s) (apply_all_u (fill_u at (cluster (cluster_size s) (x % cluster_size s) d) ++ entry a (new_entry at) ∷ []) s)))
       (was : Past backing img all (geo s) (code s) (mem (cluster_size s) s)) where
     abbrev i : ℕ
     i = nr 0 (x / cluster_size s / per_table s)
@@ -59,7 +59,7 @@ module _ (backing img : List ℕ) (all : List Request) (s : List ℕ) (fs : Fact
     bs = cluster (cluster_size s) (x % cluster_size s) d
 
     abbrev us : List UnitStore
-    us = fillU at bs ++ entry a (new_entry at) ∷ []
+    us = fill_u at bs ++ entry a (new_entry at) ∷ []
 
     abbrev u : Store
     u = entry_store (geo s) (T backing s fs (x / cluster_size s)) j (new_entry (c * cluster_size s))
@@ -89,14 +89,14 @@ module _ (backing img : List ℕ) (all : List Request) (s : List ℕ) (fs : Fact
     in_n : c < clusters s
     in_n = dat_in (geo s) (code s) st.ok _ st.batch.planned.fine.sound i j num.in_roots num.in_table
 
-    fills : Like (cluster_size s) (fillU at bs) (fill c 0 bs)
+    fills : Like (cluster_size s) (fill_u at bs) (fill c 0 bs)
     fills = like_whole (cluster_size s) at c bs is whole some
 
     enters : Like (cluster_size s) (entry a (new_entry at) ∷ []) (u ∷ [])
     enters = like_entry s fs a (T backing s fs (x / cluster_size s)) j _ _ ow.at num.in_table place ow.table
 
     -- what the machinery stores
-    done : applyAllU us s ≡ s₂
+    done : apply_all_u us s ≡ s₂
     unfolding apply_all
     done = like_all (like_append fills enters) s ∙ apply_append (cluster_size s) (fill c 0 bs) (u ∷ []) s
 
@@ -119,22 +119,22 @@ module _ (backing img : List ℕ) (all : List Request) (s : List ℕ) (fs : Fact
     now₂ = subst (λ (t : List ℕ). Past backing img all (geo s) (code s) (mem (cluster_size s) t)) done now
 
     -- the entry's table is none of the clusters that are filled
-    away : (z : ℕ) → covers (extents (fillU at bs)) z ≡ true → z / cluster_size s ≢ T backing s fs (x / cluster_size s)
+    away : (z : ℕ) → covers (extents (fill_u at bs)) z ≡ true → z / cluster_size s ≢ T backing s fs (x / cluster_size s)
     unfolding entry_store
     away = go (off_slot s fs st.batch.planned.fine.sound i num.in_roots j 0 bs num.in_table ow.table ow.lone)
       where
-        go : Off (fill c 0 bs) (entry_store (geo s) (T backing s fs (x / cluster_size s)) j 0 ∷ []) → (z : ℕ) → covers (extents (fillU at bs)) z ≡ true → z / cluster_size s ≢ T backing s fs (x / cluster_size s)
-        go (eachAlso h k) = like_covers (λ (w : ℕ). w ≢ T backing s fs (x / cluster_size s)) fills h
+        go : Off (fill c 0 bs) (entry_store (geo s) (T backing s fs (x / cluster_size s)) j 0 ∷ []) → (z : ℕ) → covers (extents (fill_u at bs)) z ≡ true → z / cluster_size s ≢ T backing s fs (x / cluster_size s)
+        go (each_also h k) = like_covers (λ (w : ℕ). w ≢ T backing s fs (x / cluster_size s)) fills h
 
-    step : (later : List Extent) × After ready (fillU at bs) later
-        × ((vs a' b' c' : List UnitStore) → Sorted s later vs a' b' c' → Sorted s ready (fillU at bs ++ vs) (fillU at bs ++ a') ([] ++ b') ([] ++ c'))
+    step : (later : List Extent) × After ready (fill_u at bs) later
+        × ((vs a' b' c' : List UnitStore) → Sorted s later vs a' b' c' → Sorted s ready (fill_u at bs ++ vs) (fill_u at bs ++ a') ([] ++ b') ([] ++ c'))
     step = sorted_then (sorted_fill s ready at bs)
 
     by_phase : (y : Dec (tab (geo s) (code s) (mem (cluster_size s) img) i ≡ 0)) → Entered backing img all s fs p0 p1 p2 p3 st ready al i j a (new_entry at) (new_entry (c * cluster_size s)) step.0 y
-    by_phase y = entered backing img all s fs p0 p1 p2 p3 st ready al i j a (new_entry at) (new_entry (c * cluster_size s)) num.in_roots num.in_table ow.table ow.at place (fillU at bs) away step.0 step.1 y
+    by_phase y = entered backing img all s fs p0 p1 p2 p3 st ready al i j a (new_entry at) (new_entry (c * cluster_size s)) num.in_roots num.in_table ow.table ow.at place (fill_u at bs) away step.0 step.1 y
 
     call : (y : Dec (tab (geo s) (code s) (mem (cluster_size s) img) i ≡ 0))
-        → Call (geo s) (code s) st.ok (m0 backing img all) img st.begun (Past backing img all (geo s) (code s)) st.role st.role st.dead st.dead (fill c 0 bs ++ before y u) (among y u) [] s (applyAllU us s)
+        → Call (geo s) (code s) st.ok (m0 backing img all) img st.begun (Past backing img all (geo s) (code s)) st.role st.role st.dead st.dead (fill c 0 bs ++ before y u) (among y u) [] s (apply_all_u us s)
     call y =
         subst (λ (t : List ℕ). Call (geo s) (code s) st.ok (m0 backing img all) img st.begun (Past backing img all (geo s) (code s)) st.role st.role st.dead st.dead (fill c 0 bs ++ before y u) (among y u) [] s t) (sym done)
         (unmarked (geo s) (code s) st.ok (m0 backing img all) img st.begun (Past backing img all (geo s) (code s)) st.role st.dead st.r st.l st.f s st.batch.planned i j num.in_roots num.in_table num.active
@@ -158,6 +158,6 @@ module _ (backing img : List ℕ) (all : List Request) (s : List ℕ) (fs : Fact
         go : (y : Dec (tab (geo s) (code s) (mem (cluster_size s) img) i ≡ 0)) → Added backing img all s fs p0 p1 p2 p3 st ready al (write x d) us
         go y =
             let e = by_phase y in
-            add backing img all s fs p0 p1 p2 p3 st ready al (write x d) us (fillU at bs ++ e.e) e.f [] st.role st.dead (fill c 0 bs ++ before y u) (among y u) []
+            add backing img all s fs p0 p1 p2 p3 st ready al (write x d) us (fill_u at bs ++ e.e) e.f [] st.role st.dead (fill c 0 bs ++ before y u) (among y u) []
             (step.2 _ _ _ _ e.sorted) (like_append fills e.firsts) e.seconds none (call y)
             (λ t k n q. inl q) (λ k n q. inl q) (unseen (like_append fills e.firsts) (hidden y))

@@ -19,7 +19,7 @@ use Rattle.qcow2_spec.proofs.Facts.{Facts}
 use Rattle.qcow2_spec.proofs.Geo.{geo, code}
 use Rattle.qcow2_spec.proofs.Flush.{held_end}
 use Rattle.qcow2_spec.proofs.Sectors.{AllIn, sector-entry, Ins, drive_loose}
-use Rattle.qcow2_spec.proofs.Sectors.{none as allNone, also as allAlso}
+use Rattle.qcow2_spec.proofs.Sectors.{none as all_none, also as all_also}
 use Rattle.qcow2_spec.proofs.Extents.{Disjoint, Beside, Apart, beside_none, brought-apart}
 use Rattle.qcow2_spec.proofs.Plans.{clear_apart}
 use Rattle.qcow2_spec.proofs.Units.{Like, like_append, like_in, like_covers, like_apart}
@@ -38,8 +38,8 @@ firsts_alike (uncleared {r = r} h) = (r, h)
 firsts_alike (cleared {a = a} {b = b} h k) = (a ++ b, like_append h k)
 
 firsts_in : {C : ℕ} {q p : List UnitStore} {r : List Store} → Firsts C q p r → AllIn 512 q
-firsts_in (uncleared h) = allNone
-firsts_in (cleared h k) = allAlso (sector-entry autoclear_at 0 refl) allNone
+firsts_in (uncleared h) = all_none
+firsts_in (cleared h k) = all_also (sector-entry autoclear_at 0 refl) all_none
 
 beside_first : (backing img : List ℕ) (f : Facts img) {q p us vs : List UnitStore} {r ws xs : List Store} → Firsts (cluster_size img) q p r → Like (cluster_size img) us ws → Like (cluster_size img) vs xs
     → Beside q (p ∷ us ∷ vs ∷ [])

@@ -21,7 +21,7 @@ use Rattle.batches.proofs.Batch.{Call}
 use Rattle.batches.proofs.Tables.{was}
 use Rattle.batches.proofs.NewTable.{new_table, hidden}
 use Rattle.units.specs.Units.{UnitStore, entry}
-use Rattle.units.specs.Units.{apply_all as applyAllU}
+use Rattle.units.specs.Units.{apply_all as apply_all_u}
 use Rattle.qcow2_spec.specs.Header.{cluster_size, clusters, per_table, root_size}
 use Rattle.qcow2_spec.specs.Entries.{new_entry}
 use Rattle.qcow2_spec.specs.Guest.{l1_entry_at}
@@ -35,7 +35,7 @@ use Rattle.qcow2_spec.proofs.Seen.{ep, in_l1, first-root}
 use Rattle.qcow2_spec.proofs.Extents.{Disjoint}
 use Rattle.qcow2_spec.proofs.Kind.{T, Span, Whole, Numbered, numbered}
 use Rattle.qcow2_spec.proofs.Units.{Like, Off, like_append, like_all, like_covers, like_entry, link_like, link_aside, off_table}
-use Rattle.qcow2_spec.proofs.Units.{also as likeAlso, none as likeNone}
+use Rattle.qcow2_spec.proofs.Units.{also as like_also, none as like_none}
 use Rattle.qcow2_batches.specs.Batch.{in_phase}
 use Rattle.qcow2_batches.proofs.Covers.{Alike, covers-left, covers-right, true-or}
 use Rattle.qcow2_batches.proofs.Sorted.{Sorted, After, sorted_append, entry_new, entry_old}
@@ -107,7 +107,7 @@ module _ (backing img : List ℕ) (all : List Request) (s : List ℕ) (fs : Fact
     inner_like = like_entry s fs _ t j _ _ refl num.in_table refl some
 
     link_likes : Like (cluster_size s) (link ∷ []) (upper ∷ [])
-    link_likes = likeAlso (λ r. link_like s fs (y / cluster_size s) _ (omega (arith, num.active)) r) (link_aside s fs st.batch.planned.fine.sound i _ num.in_roots hi) likeNone
+    link_likes = like_also (λ r. link_like s fs (y / cluster_size s) _ (omega (arith, num.active)) r) (link_aside s fs st.batch.planned.fine.sound i _ num.in_roots hi) like_none
 
     ha : Like (cluster_size s) (both ++ inner ∷ []) (both_stores ++ inner_store ∷ [])
     ha =
@@ -164,16 +164,16 @@ module _ (backing img : List ℕ) (all : List Request) (s : List ℕ) (fs : Fact
         apply (cluster_size s) upper (apply (cluster_size s) inner_store
         (apply_all (cluster_size s) (fill c 0 bs) (apply (cluster_size s) (count_store (geo s) mi c 1) (apply_all (cluster_size s) (fill t 0 zeros) (apply (cluster_size s) (count_store (geo s) mi t 1) s)))))
 
-    is_last : applyAllU us s ≡ last
+    is_last : apply_all_u us s ≡ last
     unfolding apply_all
     is_last =
-        ap (λ (l : List UnitStore). applyAllU l s) (sym (append_assoc both (inner ∷ []) (link ∷ [])))
+        ap (λ (l : List UnitStore). apply_all_u l s) (sym (append_assoc both (inner ∷ []) (link ∷ [])))
         ∙ like_all (like_append ha link_likes) s
         ∙ apply_append (cluster_size s) (both_stores ++ inner_store ∷ []) (upper ∷ []) s
         ∙ ap (λ (r : List ℕ). apply (cluster_size s) upper r) (apply_append (cluster_size s) both_stores (inner_store ∷ []) s
         ∙ ap (λ (r : List ℕ). apply (cluster_size s) inner_store r) (apply_append (cluster_size s) (count_store (geo s) mi t 1 ∷ fill t 0 zeros) (count_store (geo s) mi c 1 ∷ fill c 0 bs) s))
 
-    module _ (kept : Ok (geo s) (code s) (m0 backing img all) (applyAllU us s)) (free : Disjoint (in_phase 1 s ready us) p3) where
+    module _ (kept : Ok (geo s) (code s) (m0 backing img all) (apply_all_u us s)) (free : Disjoint (in_phase 1 s ready us) p3) where
       fine_last : Ok (geo s) (code s) (m0 backing img all) last
       fine_last = subst (Ok (geo s) (code s) (m0 backing img all)) is_last kept
 
@@ -206,7 +206,7 @@ module _ (backing img : List ℕ) (all : List Request) (s : List ℕ) (fs : Fact
 
       pub tabled-added : Added backing img all s fs p0 p1 p2 p3 st ready al (write y d) us
       tabled-added =
-          add backing img all s fs p0 p1 p2 p3 st ready al (write y d) us (both ++ inner ∷ []) (link ∷ []) [] role st.dead _ _ _ sorts ha link_likes likeNone
+          add backing img all s fs p0 p1 p2 p3 st ready al (write y d) us (both ++ inner ∷ []) (link ∷ []) [] role st.dead _ _ _ sorts ha link_likes like_none
           (subst (Call (geo s) (code s) st.ok (m0 backing img all) img st.begun (Past backing img all (geo s) (code s)) st.role role st.dead st.dead _ _ _ s) (sym is_last)
           (new_table (geo s) (code s) st.ok (m0 backing img all) img st.begun (Past backing img all (geo s) (code s)) st.role st.dead st.r st.l st.f s st.batch.planned st.batch.settled i j num.in_roots num.in_table num.active hi bare t c bs t_n c_n apart zt zc spared_t spared_c l_a whole.small fine_last))
           tables (λ k n e. inl e)

@@ -14,7 +14,7 @@ use Rattle.cuts.proofs.Step.{free-not-0}
 use Rattle.cuts.proofs.Run.{Store, fill}
 use Rattle.cuts.proofs.Call.{count_store}
 use Rattle.units.specs.Units.{UnitStore, byte}
-use Rattle.units.specs.Units.{fill as fillU}
+use Rattle.units.specs.Units.{fill as fill_u}
 use Rattle.qcow2_spec.specs.Header.{cluster_size, clusters, width}
 use Rattle.qcow2_spec.specs.Counts.{set_count, count_at, count_of}
 use Rattle.qcow2_spec.specs.Store.{allot}
@@ -33,12 +33,12 @@ use Rattle.qcow2_batches.proofs.State.{State}
 use Rattle.qcow2_batches.proofs.Added.{cell_byte, count_same, count-covers}
 
 -- a fill covers its bytes
-fill-covers : (at : ℕ) (bs : List ℕ) (z : ℕ) → at ≤ z → z < at + length bs → covers (extents (fillU at bs)) z ≡ true
-unfolding extents fillU spot wide
+fill-covers : (at : ℕ) (bs : List ℕ) (z : ℕ) → at ≤ z → z < at + length bs → covers (extents (fill_u at bs)) z ≡ true
+unfolding extents fill_u spot wide
 fill-covers at [] z l h = absurd (omega arith)
 fill-covers at (b ∷ bs) z l h = covers-join (byte at b) _ z ∙ go (ℕ_discrete z at) (λ k. fill-covers (suc at) bs z k (omega arith))
   where
-    go : Dec (z ≡ at) → (suc at ≤ z → covers (extents (fillU (suc at) bs)) z ≡ true) → (holds (byte at b) z || covers (extents (fillU (suc at) bs)) z) ≡ true
+    go : Dec (z ≡ at) → (suc at ≤ z → covers (extents (fill_u (suc at) bs)) z ≡ true) → (holds (byte at b) z || covers (extents (fill_u (suc at) bs)) z) ≡ true
     go (yes e) r = true-or (holds (byte at b) z) _ (rw (le-leb at z l, lt-ltb z (at + 1) (omega arith)) refl)
     go (no n) r = or_right (holds (byte at b) z) _ (r (omega arith))
 

@@ -3,7 +3,7 @@
 
 ghost use Rattle.std.specs.Prelude.{◌≡◌, ◌-◌, ◌≤◌, length, take};
 ghost use Rattle.units.specs.Units.{apply_all};
-ghost use Rattle.qcow2_spec.specs.Header.{version as versionOf};
+ghost use Rattle.qcow2_spec.specs.Header.{version as version_of};
 ghost use Rattle.qcow2_spec.specs.Store.{clear_units};
 ghost use Rattle.qcow2_spec.specs.Opened.{Opened};
 ghost use Rattle.qcow2_clear.specs.Ends.{Within, whole_end};
@@ -13,7 +13,7 @@ use units::Outcome;
 
 // Clears the field of version 3 where it is not zero, and returns what is left of the allowance.
 pub fn clear_field(image: &mut [u8], version: u32, allowance: usize) -> usize
-    requires { (512 ≤ length image.old) × (version ≡ versionOf image.old) }
+    requires { (512 ≤ length image.old) × (version ≡ version_of image.old) }
     ensures { (result ≡ allowance - length (clear_units image.old)) × (image.new ≡ apply_all (take allowance (clear_units image.old)) image.old) }
 {
     if version != 3 {

@@ -55,17 +55,17 @@ differ x y h = go (eqb x y) refl
     go false e = let n : x ≡ y → ⊥ = eqb-false x y e in sym (lt-ltb y x (omega arith))
 
 -- the counts in B and the figures F of the m clusters from base on, as parts of the image and of its clusters' figures
-module _ (o : ℕ) (s f B F : List ℕ) (at base m C : ℕ) (b : Packed o s base m (8 * at)) (room : 2 ^ o * m ≤ 8 * C) (hB : B ≡ take C (drop at s)) (hF : (j : ℕ) → j < m → get_or F j 0 ≡ get_or f (base + j) 0) where
+module _ (o : ℕ) (s f B F : List ℕ) (at base m C : ℕ) (b : Packed o s base m (8 * at)) (room : 2 ^ o * m ≤ 8 * C) (h_b : B ≡ take C (drop at s)) (h_f : (j : ℕ) → j < m → get_or F j 0 ≡ get_or f (base + j) 0) where
   stored_at : (j : ℕ) → j < m → packed o B j ≡ count_of s (base + j)
   unfolding packed
-  stored_at j h = rw hB (number-part o C s at (2 ^ o * j) (inside-first o C m j b.narrow room h)) ∙ sym (b.stands j h)
+  stored_at j h = rw h_b (number-part o C s at (2 ^ o * j) (inside-first o C m j b.narrow room h)) ∙ sym (b.stands j h)
 
   module _ (z : count (under_at o B F) 0 m ≡ 0) where
     enough : (j : ℕ) → j < m → get_or f (base + j) 0 ≤ count_of s (base + j)
     unfolding under_at
     enough j h =
         let v : get_or F j 0 ≤ packed o B j = ltb-false _ _ (count-zero (under_at o B F) 0 m z j (omega arith) (omega arith)) in
-        omega (arith, v, stored_at j h, hF j h)
+        omega (arith, v, stored_at j h, h_f j h)
 
     none-short : (k : ℕ) → base ≤ k → k < base + m → short s f k ≡ false
     unfolding short
@@ -75,7 +75,7 @@ module _ (o : ℕ) (s f B F : List ℕ) (at base m C : ℕ) (b : Packed o s base
 
     over_unlike : count (unlike_at o B F) 0 m ≡ count (over s f) base m
     unfolding unlike_at over
-    over_unlike = count_same (unlike_at o B F) (over s f) 0 base m (λ j h. rw (zero-add, stored_at j h, hF j h) (differ _ _ (enough j h)))
+    over_unlike = count_same (unlike_at o B F) (over s f) 0 base m (λ j h. rw (zero-add, stored_at j h, h_f j h) (differ _ _ (enough j h)))
 
   -- so the group is judged by how many counts differ
   pub judging_whole : (c : Counted) (x y : ℕ) → base + m ≤ length f → Judging s f base c → x ≡ count (unlike_at o B F) 0 m → y ≡ count (under_at o B F) 0 m → y ≡ 0

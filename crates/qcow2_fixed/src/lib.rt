@@ -4,7 +4,7 @@
 ghost use Rattle.std.specs.Prelude.{◌≡◌, ◌^◌, ◌≤◌, take};
 ghost use Rattle.tally.specs.Tally.{joined};
 ghost use Rattle.window.specs.Window.{board, visit_all_in};
-ghost use Rattle.qcow2_spec.specs.Header.{most_bits, cluster_size, blocks as blocksOf, table as table_of};
+ghost use Rattle.qcow2_spec.specs.Header.{most_bits, cluster_size, blocks as blocks_of, table as table_of};
 ghost use Rattle.qcow2_spec.specs.References.{named, fixed_refs};
 ghost use Rattle.qcow2_spec.specs.Opened.{Opened, Active};
 
@@ -34,7 +34,7 @@ fn visit_blocks(
     b: usize,
 ) -> usize
     requires { Opened g image.now × (kind ≤ 512) }
-    ensures { board target.new result ≡ visit_all_in kind b (joined (named (cluster_size image.now)) (take (blocksOf image.now) (table_of image.now))) (board target.old low) }
+    ensures { board target.new result ≡ visit_all_in kind b (joined (named (cluster_size image.now)) (take (blocks_of image.now) (table_of image.now))) (board target.old low) }
 {
     let mut least = low;
     let mut i = 0;

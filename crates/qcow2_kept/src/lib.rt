@@ -3,7 +3,7 @@
 
 ghost use Rattle.std.specs.Prelude.{◌≡◌, ◌||◌, ◌++◌, ◌≤◌, eqb, length};
 ghost use Rattle.endian.specs.Big.{bytes64, splice};
-ghost use Rattle.qcow2_kept.specs.Kept.{numbers_of, verdict_of, numbers_at, state_of, seven_bytes, state_bytes, is_finished, is_refused as refusedIs, kept_after, answer_code, answer_first, answer_second, answer_third};
+ghost use Rattle.qcow2_kept.specs.Kept.{numbers_of, verdict_of, numbers_at, state_of, seven_bytes, state_bytes, is_finished, is_refused as refused_is, kept_after, answer_code, answer_first, answer_second, answer_third};
 
 use qcow2_portion::{Answer, CheckState, Portion};
 use qcow2_spec::Verdict;
@@ -204,7 +204,7 @@ fn store(bytes: &mut [u8], st: CheckState)
 }
 
 fn is_refused(a: Answer) -> bool
-    ensures { result ≡ refusedIs a }
+    ensures { result ≡ refused_is a }
 {
     match a {
         Answer::Refused(_) => true,

@@ -27,14 +27,14 @@ use Rattle.qcow2_portions.proofs.Last.{marks-next}
 pub last_tell : (s fs : List ℕ) (N a low leaks : ℕ) → length fs ≡ N → N ≡ clusters s → a ≡ first (shared_at s) 0 (clusters s) → low ≡ first (short s fs) 0 (length fs) → leaks ≡ count (over s fs) 0 (length fs)
     → (if ltb a N then Shared a else if ltb low N then Short low else marks_verdict s fs (if ltb 0 leaks then Leaks leaks else Sound)) ≡ last_verdict s fs
 unfolding last_verdict
-last_tell s fs N a low leaks hL hN ha hl hk = let e = hL ∙ hN in rw (hN, ha, hl, hk, e)
+last_tell s fs N a low leaks h_l h_n ha hl hk = let e = h_l ∙ h_n in rw (h_n, ha, hl, hk, e)
 
 -- nothing is shared
 pub last_unshared : (s fs : List ℕ) (N low leaks : ℕ) → length fs ≡ N → N ≡ clusters s → clusters s ≤ first (shared_at s) 0 (clusters s) → low ≡ first (short s fs) 0 (length fs) → leaks ≡ count (over s fs) 0 (length fs)
     → (if ltb low N then Short low else marks_verdict s fs (if ltb 0 leaks then Leaks leaks else Sound)) ≡ last_verdict s fs
-last_unshared s fs N low leaks hL hN ha hl hk =
-    let e : ltb (first (shared_at s) 0 (clusters s)) N ≡ false = rw hN (le-ltb (first (shared_at s) 0 (clusters s)) (clusters s) ha) in
-    rw e at (last_tell s fs N (first (shared_at s) 0 (clusters s)) low leaks hL hN refl hl hk)
+last_unshared s fs N low leaks h_l h_n ha hl hk =
+    let e : ltb (first (shared_at s) 0 (clusters s)) N ≡ false = rw h_n (le-ltb (first (shared_at s) 0 (clusters s)) (clusters s) ha) in
+    rw e at (last_tell s fs N (first (shared_at s) 0 (clusters s)) low leaks h_l h_n refl hl hk)
 
 -- a search for wrong marks is made with `Sound` first
 module _ (s fs : List ℕ) (v next : Verdict) (e : v ≡ marks_verdict s fs Sound) where

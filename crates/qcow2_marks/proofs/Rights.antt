@@ -78,10 +78,10 @@ module _ (C : ℕ) (scratch t : List ℕ) (i : ℕ) where
           rw (be64-drop t (8 * i) (8 * (x - i)), d) at (eqb-true (be64 T (8 * (x - i))) 0 (all-entries is_zero m T a (x - i) (omega arith)))
 
 -- an L2 table of the image, handed on as a part of it
-module _ (s scratch : List ℕ) (b m p : ℕ) (T : List ℕ) (h_c : 2 ^ b ≡ cluster_size s) (fits : p + 2 ^ b ≤ length s) (hT : T ≡ take (2 ^ b) (drop p s)) where
+module _ (s scratch : List ℕ) (b m p : ℕ) (T : List ℕ) (h_c : 2 ^ b ≡ cluster_size s) (fits : p + 2 ^ b ≤ length s) (h_t : T ≡ take (2 ^ b) (drop p s)) where
   part-entries : entries (length T / 8) T ≡ l2_entries s p
   unfolding l2_entries per_table
-  part-entries = rw (hT, length_part s p (2 ^ b) fits, h_c)
+  part-entries = rw (h_t, length_part s p (2 ^ b) fits, h_c)
 
   -- it is fair where it is good
   pub table_fair : length s ≡ m * 2 ^ b → table_good s p ≡ true → AllFair (2 ^ b) m T

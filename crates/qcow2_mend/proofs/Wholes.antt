@@ -11,7 +11,7 @@ use lib.Dec.{eqb}
 use lib.ListN.{length, take, drop, get_or, length-append, take-append-drop}
 use lib.Seq.{drop-cons, take_all, take-nil, take-suc, length-take-le}
 use borrow.Author.Tests.{eqb-true}
-use Rattle.choice.specs.Pick.{count as countThat}
+use Rattle.choice.specs.Pick.{count as count_that}
 use Rattle.endian.specs.Big.{be16, splice, bytes16}
 use Rattle.endian.proofs.Laws.{SamePart, sets_splice, length-bytes16, length-splice, splice-none, splice-next, splice-after}
 use Rattle.widths.specs.Width.{span, number, stored}
@@ -116,7 +116,7 @@ module _ (o : ℕ) (s : List ℕ) (at C : ℕ) (fs : List ℕ) (e : at % 8 ≡ 0
       go true = refl
       go false = refl
 
-  pub unlike_units : (m : ℕ) → Row o (at / 8 + C) at m → countThat (unlike_at o (take C (drop (at / 8) s)) fs) 0 m ≡ length (fixes o s at fs m)
+  pub unlike_units : (m : ℕ) → Row o (at / 8 + C) at m → count_that (unlike_at o (take C (drop (at / 8) s)) fs) 0 m ≡ length (fixes o s at fs m)
   unfolding fixes
   unlike_units zero r = refl
   unlike_units (suc m) r =

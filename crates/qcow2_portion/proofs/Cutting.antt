@@ -16,7 +16,7 @@ use Rattle.tally.specs.Tally.{wide}
 use Rattle.tally.proofs.Laws.{length-figures}
 use Rattle.packed_twos.proofs.Laws.{length-wide}
 use Rattle.qcow2_spec.specs.Header.{clusters, roots, judge}
-use Rattle.qcow2_spec.specs.References.{references, most_figure, figures_of, scratch_left, scratch_counted, scratch_after as countedScratch}
+use Rattle.qcow2_spec.specs.References.{references, most_figure, figures_of, scratch_left, scratch_counted, scratch_after as counted_scratch}
 use Rattle.qcow2_spec.specs.Check.{verdict, check, checked}
 use Rattle.qcow2_spec.specs.declared.Verdict.{Verdict}
 use Rattle.qcow2_spec.specs.declared.Verdict.TheVariants.{Sound, Refused as RefusedCheck}
@@ -121,7 +121,7 @@ module _ (k : ℕ) where
 -- ---- an accepted image, and room in the scratch
 module _ (backing s z : List ℕ) (fine : judge backing s ≡ 0) (room : 2 * clusters s ≤ length z) where
   held-room : (n : ℕ) (st : CheckState) (y : List ℕ) → Stands s z n st y → 2 * clusters s ≤ length y
-  unfolding countedScratch figures_of
+  unfolding counted_scratch figures_of
   held-room n st y (fresh a b c) = rw c room
   held-room n st y (going done rest t i v w f p h l b c) = rw c (omega (arith, length-append (added s done (started s)) (drop (2 * clusters s) z), length-held s z done))
   held-room n st y (over b c) =
@@ -154,7 +154,7 @@ module _ (backing s z : List ℕ) (fine : judge backing s ≡ 0) (room : 2 * clu
   several_all (suc m ∷ ms) n h = several_all ms (suc n) (and-true (leb 1 (suc m)) (all (leb 1) ms) h).1 ∙ omega arith
 
   -- a finished state has the check's verdict, and its scratch
-  finished : (n : ℕ) (st : CheckState) (y : List ℕ) (v : Verdict) → Stands s z n st y → st ≡ Finished v → (v ≡ verdict s) × (y ≡ countedScratch s z)
+  finished : (n : ℕ) (st : CheckState) (y : List ℕ) (v : Verdict) → Stands s z n st y → st ≡ Finished v → (v ≡ verdict s) × (y ≡ counted_scratch s z)
   finished n st y v (fresh a b c) e = absurd (let x : ◌≡◌ {A = ℕ} 0 1 = cc in omega arith)
   finished n st y v (going done rest t i u w f p h l b c) e = absurd (let x : ◌≡◌ {A = ℕ} 0 1 = cc in omega arith)
   finished n st y v (over b c) e = (cc, c)
@@ -163,7 +163,7 @@ module _ (backing s z : List ℕ) (fine : judge backing s ≡ 0) (room : 2 * clu
   unfolding check checked
   check-is = rw (fine, le-ltb (length z) (2 * clusters s) room) refl
 
-  left_is : scratch_left backing s z ≡ countedScratch s z
+  left_is : scratch_left backing s z ≡ counted_scratch s z
   unfolding scratch_left scratch_counted
   left_is = rw (fine, le-ltb (length z) (2 * clusters s) room) refl
 

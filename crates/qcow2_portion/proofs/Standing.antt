@@ -17,7 +17,7 @@ use Rattle.tally.specs.Tally.{wide, bump_all_wide}
 use Rattle.tally.specs.States.{twos}
 use Rattle.tally.proofs.States.{visit_all-count, length-visit_all}
 use Rattle.qcow2_spec.specs.Header.{clusters, roots}
-use Rattle.qcow2_spec.specs.References.{l1_refs, fixed_refs, references, most_figure, figures_of, scratch_after as countedScratch}
+use Rattle.qcow2_spec.specs.References.{l1_refs, fixed_refs, references, most_figure, figures_of, scratch_after as counted_scratch}
 use Rattle.qcow2_spec.specs.Check.{or_else, roots_verdict, counts_verdict, verdict}
 use Rattle.qcow2_spec.specs.declared.Verdict.{Verdict}
 use Rattle.qcow2_spec.specs.declared.Verdict.TheVariants.{Sound}
@@ -64,7 +64,7 @@ module _ (s z : List ℕ) where
     going : (done rest : List Row) (t i : ℕ) (v : Verdict)
         → rows ≡ done ++ rest → ahead s t i ≡ rest → 0 < length rest → v ≡ met s done Sound → n ≤ length done
         → st ≡ Going t i v → y ≡ held_after done → Stands n st y
-    over : st ≡ Finished (verdict s) → y ≡ countedScratch s z → Stands n st y
+    over : st ≡ Finished (verdict s) → y ≡ counted_scratch s z → Stands n st y
 
   pub length-held : (done : List Row) → length (added s done (started s)) ≡ 2 * clusters s
   unfolding started
@@ -122,7 +122,7 @@ module _ (s z : List ℕ) where
         ∙ judged (roots_verdict s 0 (roots s) Sound) refl (figures_of s) ∙ sym (roots_else s 0 (roots s) (counts_verdict s (figures_of s)))
 
     pub taken-stands : 0 < m → Stands (suc n) (taken s t i v m f).state (figures_taken s t i m f ++ drop (2 * clusters s) z)
-    unfolding taken figures_taken taken_rows verdict_taken countedScratch
+    unfolding taken figures_taken taken_rows verdict_taken counted_scratch
     taken-stands p = rw front (go (two_ways (ltb m (length rest))))
       where
         go : (ltb m (length rest) ≡ true) ⊎ (ltb m (length rest) ≡ false)

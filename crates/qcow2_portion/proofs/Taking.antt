@@ -64,9 +64,9 @@ module _ (s z y : List ℕ) (root row may n count : ℕ) (found : Verdict) (ahea
     -- none is left
     pub taken-last : (v : Verdict) (N : ℕ) → N ≡ clusters s → length y ≡ 2 * N → v ≡ or_else u (last_verdict s (figures_in y)) → n ≤ may → ends v ≡ taken s root row found may z
     unfolding taken verdict_taken
-    taken-last v N hN hl hv h =
+    taken-last v N h_n hl hv h =
         let l : ltb may (length (ahead s root row)) ≡ false = le-ltb may (length (ahead s root row)) (omega (arith, h, ahead-is)) in
-        let f : figures_in y ≡ twos (figures_taken s root row may z) 0 (clusters s) = sym (figures_are y N hl) ∙ ap₂ (λ (q : List ℕ) (k : ℕ). twos q 0 k) figures-told hN in
+        let f : figures_in y ≡ twos (figures_taken s root row may z) 0 (clusters s) = sym (figures_are y N hl) ∙ ap₂ (λ (q : List ℕ) (k : ℕ). twos q 0 k) figures-told h_n in
         let e : v ≡ or_else (met s (taken_rows s root row may) found) (last_verdict s (twos (figures_taken s root row may z) 0 (clusters s))) = hv ∙ ap₂ (λ (a : Verdict) (q : List ℕ). or_else a (last_verdict s q)) met-told f in
         rw (l, e) refl
 

@@ -5,7 +5,7 @@ ghost use Rattle.std.specs.Prelude.{◌≡◌, ◌*◌, ◌≤◌, length, if◌
 ghost use Rattle.qcow2_spec.specs.Opened.{Active};
 ghost use Rattle.qcow2_portions.specs.Rows.{started};
 ghost use Rattle.qcow2_portion.specs.declared.CheckState.TheVariants.{New};
-ghost use Rattle.qcow2_portion.specs.State.{figures_taken, taken as taken_of, stepped as steppedOf, scratch_stepped, portioned as portionedOf, scratch_portioned, portion as portion_of, scratch_portion};
+ghost use Rattle.qcow2_portion.specs.State.{figures_taken, taken as taken_of, stepped as stepped_of, scratch_stepped, portioned as portioned_of, scratch_portioned, portion as portion_of, scratch_portion};
 
 use qcow2_spec::{Geometry, Judged, Verdict};
 
@@ -96,7 +96,7 @@ fn entered(
 // A portion that may take entries, of a check that is not finished; the scratch's first bytes are its figures.
 fn stepped(st: CheckState, image: &[u8], scratch: &mut [u8], g: Geometry, may: usize) -> Portion
     requires { Active g image.now × (2 * g.clusters ≤ length scratch.old) }
-    ensures { (result ≡ steppedOf image.now st scratch.old may) × (scratch.new ≡ scratch_stepped image.now st scratch.old may) }
+    ensures { (result ≡ stepped_of image.now st scratch.old may) × (scratch.new ≡ scratch_stepped image.now st scratch.old may) }
 {
     let m = 2 * g.clusters;
     match st {
@@ -139,7 +139,7 @@ fn stepped(st: CheckState, image: &[u8], scratch: &mut [u8], g: Geometry, may: u
 // A portion of an accepted image.
 fn portioned(st: CheckState, image: &[u8], scratch: &mut [u8], g: Geometry, may: usize) -> Portion
     requires { Active g image.now }
-    ensures { (result ≡ portionedOf image.now st scratch.old may) × (scratch.new ≡ scratch_portioned image.now st scratch.old may) }
+    ensures { (result ≡ portioned_of image.now st scratch.old may) × (scratch.new ≡ scratch_portioned image.now st scratch.old may) }
 {
     if scratch.len() / 2 < g.clusters {
         return Portion {

@@ -7,7 +7,7 @@ use mathlib.Core.Bool.{Bool, true, false, not, ◌||◌}
 use mathlib.Core.List.{List, [], ◌∷◌}
 use lib.Dec.{eqb, ltb}
 use lib.ListN.{length}
-use Rattle.choice.specs.Pick.{all, count as countThat}
+use Rattle.choice.specs.Pick.{all, count as count_that}
 use Rattle.choice.proofs.Tests.{and-true}
 use Rattle.qcow2_spec.specs.Header.{version, cluster_size, clusters}
 use Rattle.qcow2_spec.specs.Entries.{place, good_l1, good_l2}
@@ -66,4 +66,4 @@ module _ (s fs : List ℕ) where
 
   pub last-good : all (entry_good s) (l1_entries s 0) ≡ true → last_verdict s fs ≡ counts_verdict s fs
   unfolding last_verdict counts_verdict
-  last-good h = rw (marks-good (if ltb 0 (countThat (over s fs) 0 (clusters s)) then Leaks (countThat (over s fs) 0 (clusters s)) else Sound) h)
+  last-good h = rw (marks-good (if ltb 0 (count_that (over s fs) 0 (clusters s)) then Leaks (count_that (over s fs) 0 (clusters s)) else Sound) h)

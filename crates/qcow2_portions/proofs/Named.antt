@@ -8,7 +8,7 @@ use mathlib.Core.Bool.{Bool, true, false, not, ◌||◌}
 use mathlib.Core.List.{List, [], ◌∷◌}
 use lib.Dec.{ltb, eqb}
 use lib.ListN.{length, get_or}
-use Rattle.choice.specs.Pick.{first, count as countThat}
+use Rattle.choice.specs.Pick.{first, count as count_that}
 use Rattle.qcow2_spec.specs.Header.{version, cluster_size, clusters}
 use Rattle.qcow2_spec.specs.Entries.{place, good_l1, good_l2}
 use Rattle.qcow2_spec.specs.References.{l1_entries, l2_entries}
@@ -90,7 +90,7 @@ unfolding last_verdict marks_verdict MarkNamed
 named s fs =
     let N = clusters s in
     let P : Verdict → Type 0 = MarkNamed s fs in
-    let leaks = countThat (over s fs) 0 N in
+    let leaks = count_that (over s fs) 0 N in
     let next = if ltb 0 leaks then Leaks leaks else Sound in
     let marks = marks_verdict s fs next in
     let shared = first (shared_at s) 0 N in

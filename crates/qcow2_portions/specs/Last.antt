@@ -2,7 +2,7 @@
 -- Paper 02, T-12. With the references of its own bytes as figures, and where all entries are good, this is the check's `counts_verdict`.
 -- Assumes nothing.
 use Rattle.std.specs.Prelude.{ℕ, not, ◌||◌, List, [], ◌∷◌, ltb, length, if◌then◌else◌}
-use Rattle.choice.specs.Pick.{first, count as countThat}
+use Rattle.choice.specs.Pick.{first, count as count_that}
 use Rattle.qcow2_spec.specs.Header.{version, cluster_size, clusters}
 use Rattle.qcow2_spec.specs.Entries.{good_l1, good_l2}
 use Rattle.qcow2_spec.specs.References.{l1_entries}
@@ -38,7 +38,7 @@ last_verdict s fs =
     let N = clusters s in
     let shared = first (shared_at s) 0 N in
     let low = first (short s fs) 0 N in
-    let leaks = countThat (over s fs) 0 N in
+    let leaks = count_that (over s fs) 0 N in
     if ltb shared N then Shared shared else
     if ltb low N then Short low else
     marks_verdict s fs

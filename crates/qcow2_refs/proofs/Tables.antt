@@ -17,10 +17,10 @@ use Rattle.qcow2_refs.specs.Walks.{passes_l1, table_front, row_front}
 use Rattle.packed.proofs.Parts.{length_part}
 
 -- the L2 table at p, handed on as a part of the image
-module _ (leaf : ℕ) (s : List ℕ) (v C p : ℕ) (T : List ℕ) (hv : v ≡ version s) (h_c : C ≡ cluster_size s) (fits : p + C ≤ length s) (hT : T ≡ take C (drop p s)) where
+module _ (leaf : ℕ) (s : List ℕ) (v C p : ℕ) (T : List ℕ) (hv : v ≡ version s) (h_c : C ≡ cluster_size s) (fits : p + C ≤ length s) (h_t : T ≡ take C (drop p s)) where
   part-entries : whole T ≡ l2_entries s p
   unfolding l2_entries per_table
-  part-entries = rw (hT, length_part s p C fits, h_c)
+  part-entries = rw (h_t, length_part s p C fits, h_c)
 
   pub below-front : fore (passes leaf v C (length s)) (whole T) ≡ table_front leaf s p
   unfolding table_front

@@ -13,7 +13,7 @@ use borrow.Author.Tests.{eqb-true}
 use Rattle.cuts.proofs.Cell.{mem, small-enc}
 use Rattle.cuts.proofs.Meta.{cnt, Has, Sound, keep_refs}
 use Rattle.cuts.proofs.Step.{dat_in, Quiet}
-use Rattle.cuts.proofs.Run.{Store, apply, Epoch, epoch_only, epoch_late, none as eachNone, also as eachAlso}
+use Rattle.cuts.proofs.Run.{Store, apply, Epoch, epoch_only, epoch_late, none as each_none, also as each_also}
 use Rattle.cuts.proofs.Call.{Ok, SameGuest, Zeroed, MidZ, EndZ, discard-run, unmark_run, count_store}
 use Rattle.cuts.proofs.Write.{Wrote, MidW, EndW, MidP, place-run, marked-run, alloc_run, table-run}
 use Rattle.cuts.proofs.Repair.{MidR, Repaired, repair-run}
@@ -25,7 +25,7 @@ use Rattle.qcow2_spec.specs.Header.{most_l1, autoclear_at, autoclear, version, c
 use Rattle.qcow2_spec.specs.Entries.{new_entry}
 use Rattle.qcow2_spec.specs.Counts.{count_of, set_count}
 use Rattle.units.specs.Plan.{Plan, refused, units, plan_units, stores_count}
-use Rattle.units.specs.Units.{UnitStore, entry, apply as applyU, apply_all, cluster, fill}
+use Rattle.units.specs.Units.{UnitStore, entry, apply as apply_u, apply_all, cluster, fill}
 use Rattle.qcow2_spec.specs.Guest.{l1_entry_at}
 use Rattle.qcow2_spec.specs.Store.{clear_units, clearing, allot, cleared_entry}
 use Rattle.qcow2_spec.specs.References.{figures_of}
@@ -40,7 +40,7 @@ use Rattle.qcow2_spec.proofs.Numbers.{enc8}
 use Rattle.qcow2_spec.proofs.Geo.{nr, geo, code, geo_ok}
 use Rattle.qcow2_spec.proofs.Kept.{has, cnt_own}
 use Rattle.qcow2_spec.proofs.Flush.{halves-entry, halves-table, halves-drop, halves-none, picked_nil, picked_all, Held}
-use Rattle.qcow2_spec.proofs.Sectors.{spot, wide, sector-entry, Ins, none as allNone, also as allAlso}
+use Rattle.qcow2_spec.proofs.Sectors.{spot, wide, sector-entry, Ins, none as all_none, also as all_also}
 use Rattle.qcow2_spec.proofs.Extents.{covers_one, Disjoint, Beside, Apart, beside_none}
 use Rattle.qcow2_spec.proofs.Units.{Twin, Like, none, also, like_append, like_picked, like_in, like_epochs, like_aside, like_some, like_covers, Off, like_apart, like_fill, like_whole, fill_quiet, fill-plain, repair-plain, off_new, off_slot, off_drop, off_table, count_aside, link_aside, count_like, like_entry, link_like, repair_like}
 use Rattle.qcow2_spec.proofs.Ways.{first_nr}
@@ -55,21 +55,21 @@ clear = entry autoclear_at 0
 abbrev pub clear_store : Store
 clear_store = record { w = 0; o = autoclear_at; bs = λ f. bytes64 0 }
 
-pub clear-is : (C : ℕ) (t : List ℕ) → applyU clear t ≡ apply C clear_store t
-unfolding applyU apply
+pub clear-is : (C : ℕ) (t : List ℕ) → apply_u clear t ≡ apply C clear_store t
+unfolding apply_u apply
 clear-is C t = ap (λ (x : ℕ). sets t x (bytes64 0)) (sym (ap (λ (y : ℕ). y + autoclear_at) (zero-mul C) ∙ zero-add autoclear_at))
 
 pub clear-bytes : Bytes (bytes64 0)
 clear-bytes = subst Bytes (enc8 0) (small-enc 8 0)
 
 -- it may be stored before other units as well as after them
-pub clear_aside : (s : List ℕ) (f : Facts s) {us : List UnitStore} {vs : List Store} → Like (cluster_size s) us vs → (t : List ℕ) → apply_all us (applyU clear t) ≡ applyU clear (apply_all us t)
-unfolding applyU
+pub clear_aside : (s : List ℕ) (f : Facts s) {us : List UnitStore} {vs : List Store} → Like (cluster_size s) us vs → (t : List ℕ) → apply_all us (apply_u clear t) ≡ apply_u clear (apply_all us t)
+unfolding apply_u
 clear_aside s f lk = like_aside lk autoclear_at (bytes64 0) (omega (arith, length-bytes64 0, c_big s f))
 
 -- it changes neither what the tables say nor what the guest reads
 pub cleared : (s : List ℕ) (f : Facts s) (m0 : ℕ → ℕ → ℕ) (t : List ℕ) → Ok (geo s) (code s) m0 t
-    → Ok (geo s) (code s) m0 (applyU clear t) × Quiet (geo s) (code s) (mem (cluster_size s) t) (mem (cluster_size s) (applyU clear t))
+    → Ok (geo s) (code s) m0 (apply_u clear t) × Quiet (geo s) (code s) (mem (cluster_size s) t) (mem (cluster_size s) (apply_u clear t))
 unfolding apply
 cleared s f m0 t k =
     subst (λ (u : List ℕ). Ok (geo s) (code s) m0 u × Quiet (geo s) (code s) (mem (cluster_size s) t) (mem (cluster_size s) u)) (sym (clear-is (cluster_size s) t))
@@ -88,7 +88,7 @@ module _ (backing s : List ℕ) (f : Facts s) where
 
   -- the autoclear field may as well be cleared before the units of an epoch as after them, whichever are stored
   abbrev pub Aside : List UnitStore → Type 0
-  Aside us = (cs : List Bool) (t : List ℕ) → apply_all (picked cs us) (applyU clear t) ≡ applyU clear (apply_all (picked cs us) t)
+  Aside us = (cs : List Bool) (t : List ℕ) → apply_all (picked cs us) (apply_u clear t) ≡ apply_u clear (apply_all (picked cs us) t)
 
   unfoldable pub Asides : List (List UnitStore) → Type 0
   Asides [] = Unit {0}
@@ -114,7 +114,7 @@ module _ (backing s : List ℕ) (f : Facts s) where
   -- no unit lies over a sector's end
   pub sure_in : (r : Request) (p : Plan) → Sure r p → Ins (epochs s (plan_units p))
   unfolding Sure plan_units epochs Ins stores_entry
-  sure_in r (refused n) h = rw (take-nil {A = UnitStore} (length (clear_units s)), drop-nil {A = UnitStore} (length (clear_units s)), halves-none [] refl) (allNone, (allNone, (allNone, tt)))
+  sure_in r (refused n) h = rw (take-nil {A = UnitStore} (length (clear_units s)), drop-nil {A = UnitStore} (length (clear_units s)), halves-none [] refl) (all_none, (all_none, (all_none, tt)))
   sure_in r (units us) h = h.2
 
   -- no byte is stored in two epochs
@@ -148,14 +148,14 @@ module _ (backing s : List ℕ) (f : Facts s) where
 
   -- ---- it is cleared
   module _ (t : List ℕ) (k : Kept backing s f t) where
-    abbrev quiet : Quiet (geo s) (code s) (mem (cluster_size s) t) (mem (cluster_size s) (applyU clear t))
+    abbrev quiet : Quiet (geo s) (code s) (mem (cluster_size s) t) (mem (cluster_size s) (apply_u clear t))
     quiet = (cleared s f m t k).1
 
-    cleared_seen : SameDisk (disk_size s) (seen backing s f (applyU clear t)) (seen backing s f t)
+    cleared_seen : SameDisk (disk_size s) (seen backing s f (apply_u clear t)) (seen backing s f t)
     unfolding SameGuest
-    cleared_seen = same_rd backing s f t (applyU clear t) quiet.reads
+    cleared_seen = same_rd backing s f t (apply_u clear t) quiet.reads
 
-    mid_cleared : (r : Request) (b : Bool) → Mid r b t → Mid r b (applyU clear t)
+    mid_cleared : (r : Request) (b : Bool) → Mid r b t → Mid r b (apply_u clear t)
     unfolding SameDisk
     mid_cleared r b h = (
       (cleared s f m t k).0,
@@ -163,22 +163,22 @@ module _ (backing s : List ℕ) (f : Facts s) where
       λ a b x l n p q. quiet.reads a b x l p q ∙ h.2 a b x l n p q,
     )
 
-    exact_cleared : (r : Request) → Exact backing s f r t → Exact backing s f r (applyU clear t)
+    exact_cleared : (r : Request) → Exact backing s f r t → Exact backing s f r (apply_u clear t)
     unfolding Exact
     exact_cleared (write x d) h = tt
     exact_cleared (discard c) h = tt
-    exact_cleared (repair n) h = λ c l. quiet.cnts c l ∙ h c l ∙ sym (keep_refs (geo s) (code s) (geo_ok s f) (mem (cluster_size s) t) (mem (cluster_size s) (applyU clear t)) quiet.keep c)
+    exact_cleared (repair n) h = λ c l. quiet.cnts c l ∙ h c l ∙ sym (keep_refs (geo s) (code s) (geo_ok s f) (mem (cluster_size s) t) (mem (cluster_size s) (apply_u clear t)) quiet.keep c)
 
-    end_cleared : (r : Request) → End r t → End r (applyU clear t)
+    end_cleared : (r : Request) → End r t → End r (apply_u clear t)
     unfolding SameDisk
     end_cleared r h = ((cleared s f m t k).0, ((λ y l. cleared_seen y l ∙ h.1.0 y l), exact_cleared r h.1.1), λ a b x l n p q. quiet.reads a b x l p q ∙ h.2 a b x l n p q)
 
-  pub whole_aside : (us : List UnitStore) (t : List ℕ) → Aside us → apply_all us (applyU clear t) ≡ applyU clear (apply_all us t)
+  pub whole_aside : (us : List UnitStore) (t : List ℕ) → Aside us → apply_all us (apply_u clear t) ≡ apply_u clear (apply_all us t)
   whole_aside us t z = rw (picked_all us) at (z (replicate (length us) true) t)
 
   module _ (bb : Bytes backing) (k : Kept backing s f s) where
     -- a list that is fine is so after the clearing unit
-    held-clear : (r : Request) (b : Bool) (es : List (List UnitStore)) (t : List ℕ) → Held (Mid r b) (End r) es t → Asides es → Held (Mid r b) (End r) es (applyU clear t)
+    held-clear : (r : Request) (b : Bool) (es : List (List UnitStore)) (t : List ℕ) → Held (Mid r b) (End r) es t → Asides es → Held (Mid r b) (End r) es (apply_u clear t)
     unfolding Held Asides
     held-clear r b [] t h z = end_cleared t h.0 r h
     held-clear r b (us ∷ es) t h z = (
@@ -191,15 +191,15 @@ module _ (backing s : List ℕ) (f : Facts s) where
     untouched r b = (k, strong b (disk_size s) (seen backing s f s) (finished (cluster_size s) r (seen backing s f s)) (seen backing s f s) (inl (λ y l. refl)), λ a b x l n p q. refl)
 
     -- ---- the clearing unit is an epoch of its own
-    pub zeroed : (t : List ℕ) → length t ≡ length s → autoclear (applyU clear t) ≡ 0
-    unfolding autoclear applyU
+    pub zeroed : (t : List ℕ) → length t ≡ length s → autoclear (apply_u clear t) ≡ 0
+    unfolding autoclear apply_u
     zeroed t e =
         if_elim (λ (n : ℕ). n ≡ 0) (eqb (version (sets t autoclear_at (bytes64 0))) 3) _ _
         (λ v. ap (λ (l : List ℕ). be64 l autoclear_at) (sets_splice t autoclear_at (bytes64 0) (omega (arith, length-bytes64 0, f.long, e)))
         ∙ be64-stored t autoclear_at 0 (omega (arith, f.long, e)) (omega arith))
         (λ v. refl)
 
-    first-clear : (es : List (List UnitStore)) (t : List ℕ) → length t ≡ length s → Asides es → Clean es (applyU clear t)
+    first-clear : (es : List (List UnitStore)) (t : List ℕ) → length t ≡ length s → Asides es → Clean es (apply_u clear t)
     unfolding Held Asides ClearedFirst
     first-clear [] t e z = tt
     first-clear (us ∷ es) t e z = (
@@ -209,7 +209,7 @@ module _ (backing s : List ℕ) (f : Facts s) where
 
     sure_first : (r : Request) (us : List UnitStore) → Fine r (units us) → SureIn r (stores_count us) ((clear ∷ []) ∷ halves us)
     unfolding Fine Held ClearedFirst Ins Apart apply_all picked
-    sure_first r us h = ((cut, held-clear r (stores_count us) (halves us) s h.0 h.1), (clean, first-clear (halves us) s refl h.1), (allAlso (sector-entry autoclear_at 0 refl) allNone, h.2), h.3)
+    sure_first r us h = ((cut, held-clear r (stores_count us) (halves us) s h.0 h.1), (clean, first-clear (halves us) s refl h.1), (all_also (sector-entry autoclear_at 0 refl) all_none, h.2), h.3)
       where
         cut : (cs : List Bool) → Mid r (stores_count us) (apply_all (picked cs (clear ∷ [])) s)
         cut [] = untouched r (stores_count us)
@@ -224,7 +224,7 @@ module _ (backing s : List ℕ) (f : Facts s) where
     -- an empty epoch in its place
     sure_none : (r : Request) (us : List UnitStore) → Fine r (units us) → Clean ([] ∷ halves us) s → SureIn r (stores_count us) ([] ∷ halves us)
     unfolding Fine Held Ins Apart apply_all
-    sure_none r us h c = (((λ cs. rw (picked_nil cs) (untouched r (stores_count us))), h.0), c, (allNone, h.2), (beside_none (halves us), h.3.1))
+    sure_none r us h c = (((λ cs. rw (picked_nil cs) (untouched r (stores_count us))), h.0), c, (all_none, h.2), (beside_none (halves us), h.3.1))
 
     -- no bit stands
     no_bit : autoclear s ≡ 0 → (es : List (List UnitStore)) (t : List ℕ) → Clean es t
@@ -253,7 +253,7 @@ module _ (backing s : List ℕ) (f : Facts s) where
     unfolding Fine Held Asides Ins Apart Beside apply_all stores_entry
     fine_none r h e =
         let q : (cs : List Bool) → Mid r (stores_count []) (apply_all (picked cs []) s) = λ cs. rw (picked_nil cs) (untouched r (stores_count [])) in
-        rw (halves-none [] refl) ((q, (q, (k, (h, e), λ u b x l n p q. refl))), (like_clear none, (like_clear none, tt)), (allNone, (allNone, tt)), ((clear_apart none, (clear_apart none, tt)), (beside_none ([] ∷ []), (tt, tt))))
+        rw (halves-none [] refl) ((q, (q, (k, (h, e), λ u b x l n p q. refl))), (like_clear none, (like_clear none, tt)), (all_none, (all_none, tt)), ((clear_apart none, (clear_apart none, tt)), (beside_none ([] ∷ []), (tt, tt))))
 
     -- ---- write
     module _ (x : ℕ) (d : List ℕ) (sp : Span backing s f x d) where
@@ -314,7 +314,7 @@ module _ (backing s : List ℕ) (f : Facts s) where
       fine_place : (a at : ℕ) → Owned backing s f (x / cluster_size s) a → D backing s f (x / cluster_size s) ≢ 0 → M backing s f (x / cluster_size s) ≡ 0 → at ≡ D backing s f (x / cluster_size s) * cluster_size s + o → Fine (write x d) (units (fill at d))
       unfolding Exact Fed
       fine_place a at w dn fl e =
-          fine_by (write x d) us us [] _ [] (MidP (geo s) (code s) (geo_ok s f) m u i j o d s) Written (halves-none us (fill-plain at d)) (like_fill (cluster_size s) at (D backing s f (x / cluster_size s)) o d e sp.in_cluster dn) none eachNone
+          fine_by (write x d) us us [] _ [] (MidP (geo s) (code s) (geo_ok s f) m u i j o d s) Written (halves-none us (fill-plain at d)) (like_fill (cluster_size s) at (D backing s f (x / cluster_size s)) o d e sp.in_cluster dn) none each_none
           (λ t h. (
             h.0,
             λ n. subst (λ (b : Bool). Fed (Stopped n) b (disk_size s) (seen backing s f s) (finished (cluster_size s) (write x d) (seen backing s f s)) (seen backing s f t)) (sym (fill_quiet at d)) (part_rd backing s f t x d sp.in_cluster h.1),
@@ -399,7 +399,7 @@ module _ (backing s : List ℕ) (f : Facts s) where
     fine_emptied c a w dz good dark =
         fine_z c w.in_root _ _ _ _ _ (halves-entry [] a (cleared_entry s)) none
         (like_entry s f a (T backing s f c) (c % per_table s) _ _ w.at (mod-lt c (ep backing s f)) refl w.table)
-        (eachAlso eachNone eachNone)
+        (each_also each_none each_none)
         (epoch_late (cluster_size s) (Zeroing c) _ s (Zeros c)
         (unmark_run (geo s) (code s) (geo_ok s f) m s k (nr 0 (c / per_table s)) (c % per_table s) (nr_l1 backing s f _ w.in_root) (mod-lt c (ep backing s f)) (beneath backing s f c) (cleared_entry s) good (cleared_entry-low s) (cleared_entry-bare s) (λ y l. dark y) w.table dz w.lone))
 
@@ -429,7 +429,7 @@ module _ (backing s : List ℕ) (f : Facts s) where
     fine_list n =
         let us = repair_units s (figures_of s) 0 (clusters s) in
         fine_by (repair n) us us [] _ [] (MidR (geo s) (code s) (geo_ok s f) m s k) (Repaired (geo s) (code s) (geo_ok s f) m s k) (halves-none us (repair-plain s (figures_of s) 0 (clusters s)))
-        (repair_like s f snd (clusters s) 0 (omega arith)) none eachNone
+        (repair_like s f snd (clusters s) 0 (omega arith)) none each_none
         (λ t h. (h.0, strong (stores_count us) (disk_size s) (seen backing s f s) (finished (cluster_size s) (repair n) (seen backing s f s)) (seen backing s f t) (inl (same_rd backing s f s t h.1)), same-shots backing s f t h.1))
         (λ t h. (h.still.fine, (same_rd backing s f s t h.still.reads, h.exact), same-shots backing s f t h.still.reads))
         (epoch_only (cluster_size s) (MidR (geo s) (code s) (geo_ok s f) m s k) _ s (Repaired (geo s) (code s) (geo_ok s f) m s k) (repair-run (geo s) (code s) (geo_ok s f) m s k))

@@ -22,7 +22,7 @@ use Rattle.units.specs.Plan.{Plan, refused, units, plan_units, ended, outcome}
 use Rattle.units.specs.Units.{UnitStore, apply_all}
 use Rattle.tally.specs.Tally.{occurrences}
 use Rattle.qcow2_spec.specs.References.{references}
-use Rattle.qcow2_spec.specs.Check.{verdict, checked as checkedWith, check}
+use Rattle.qcow2_spec.specs.Check.{verdict, checked as checked_with, check}
 use Rattle.units.specs.declared.Outcome.{Outcome}
 use Rattle.units.specs.declared.Outcome.TheVariants.{Finished, Stopped, Refused}
 use Rattle.qcow2_spec.specs.declared.Verdict.TheVariants.{Refused as NotChecked}
@@ -80,7 +80,7 @@ module _ (backing start s : List ℕ) (k : Good backing start s) where
   own = record { len = sym (n_whole s fs); small = k.bytes; sound = k.sound; head = λ x l b. refl; table = λ i l. refl; directory = λ q x l h. refl }
 
   checked : (n : ℕ) → 2 * clusters start ≤ n → check backing s n ≡ verdict s
-  unfolding check checkedWith
+  unfolding check checked_with
   checked n l = rw k.judged (if_no (ltb n (2 * clusters s)) (NotChecked 15) (verdict s) (le-ltb n (2 * clusters s) (omega (arith, k.one-N))))
 
   within : (t x len : ℕ) → t < roots start → x + len ≤ reach start t → outside s t x len ≡ false
@@ -295,7 +295,7 @@ smooth backing start s disk (c ∷ cs) h =
 
 -- a healthy check is one of an accepted image
 pub healthy-check : (backing s : List ℕ) → Healthy (check backing s (2 * clusters s)) → (judge backing s ≡ 0) × Healthy (verdict s)
-unfolding check checkedWith Healthy
+unfolding check checked_with Healthy
 healthy-check backing s h = go (judge backing s) h
   where
     go : (j : ℕ) → Healthy (unless j NotChecked (if ltb (2 * clusters s) (2 * clusters s) then NotChecked 15 else verdict s)) → (j ≡ 0) × Healthy (verdict s)

@@ -30,10 +30,10 @@ part-sectors s p b T low fits e =
     rw (e, length_part s p (2 ^ b) fits) (omega arith)
 
 -- the L2 table at p, handed on as a part of the image
-module _ (leaf : ℕ) (s : List ℕ) (v C p : ℕ) (T : List ℕ) (hv : v ≡ version s) (h_c : C ≡ cluster_size s) (fits : p + C ≤ length s) (hT : T ≡ take C (drop p s)) where
+module _ (leaf : ℕ) (s : List ℕ) (v C p : ℕ) (T : List ℕ) (hv : v ≡ version s) (h_c : C ≡ cluster_size s) (fits : p + C ≤ length s) (h_t : T ≡ take C (drop p s)) where
   part-entries : whole T ≡ l2_entries s p
   unfolding l2_entries per_table
-  part-entries = rw (hT, length_part s p C fits, h_c)
+  part-entries = rw (h_t, length_part s p C fits, h_c)
 
   pub below-fore : fore (passes_by leaf v C (length s)) (whole T) ≡ fore (passes_by leaf (version s) (cluster_size s) (length s)) (l2_entries s p)
   below-fore = rw (part-entries, hv, h_c)

@@ -7,7 +7,7 @@ ghost use Rattle.window.specs.Window.{board, entry_visited_in, tree_visited_in};
 ghost use Rattle.qcow2_spec.specs.References.{table_refs, l1_refs, l1_entries, l2_entries};
 ghost use Rattle.qcow2_spec.specs.Check.{or_else, entry_verdict, l1_verdict};
 ghost use Rattle.qcow2_spec.specs.Opened.{Opened};
-ghost use Rattle.qcow2_spec.specs.Header.{version as versionOf, cluster_size};
+ghost use Rattle.qcow2_spec.specs.Header.{version as version_of, cluster_size};
 ghost use Rattle.qcow2_spec.specs.declared.Verdict.TheVariants.{Sound};
 ghost use Rattle.qcow2_refs.specs.Walks.{row_at};
 ghost use Rattle.qcow2_groups.specs.Walks.{fore};
@@ -39,7 +39,7 @@ fn sweep_below(
     b: usize,
 ) -> Seen
     requires { (Opened g image.now × (p + 2 ^ g.bits ≤ length image.now)) × ((table ≤ 512) × (leaf ≤ 512)) }
-    ensures { (result.fore ≡ fore (passes_by leaf (versionOf image.now) (cluster_size image.now) (length image.now)) (l2_entries image.now p)) × (board target.new result.low ≡ entry_visited_in table leaf b (table_refs image.now p) (board target.old low)) }
+    ensures { (result.fore ≡ fore (passes_by leaf (version_of image.now) (cluster_size image.now) (length image.now)) (l2_entries image.now p)) × (board target.new result.low ≡ entry_visited_in table leaf b (table_refs image.now p) (board target.old low)) }
 {
     let at = p as usize;
     let c = power::power(g.bits) as usize;

@@ -6,7 +6,7 @@ ghost use Rattle.tally.specs.States.{tree_visited};
 ghost use Rattle.qcow2_spec.specs.Header.{roots};
 ghost use Rattle.qcow2_spec.specs.References.{l1_entries, l1_refs};
 ghost use Rattle.qcow2_spec.specs.Opened.{Active};
-ghost use Rattle.qcow2_trees.specs.Walks.{table_by, data_by, roots_visited, onward as onwardOf, Front};
+ghost use Rattle.qcow2_trees.specs.Walks.{table_by, data_by, roots_visited, onward as onward_of, Front};
 
 use qcow2_spec::Geometry;
 
@@ -43,7 +43,7 @@ pub fn data_by(states: bool, t: usize) -> u16
 // How far all passes, once L1 table t is walked too, of whose entries some at the front pass.
 fn onward(f: Spot, t: usize, good: usize, below: usize, rows: usize) -> Spot
     requires { t ≤ 64 }
-    ensures { result ≡ onwardOf f t good below rows }
+    ensures { result ≡ onward_of f t good below rows }
 {
     if f.root < t {
         return f;

@@ -21,7 +21,7 @@ use Rattle.qcow2_bad.proofs.Tables.{sound-is, sound_else}
 pub counts_tell : (s fs : List ℕ) (N a low leaks : ℕ) → length fs ≡ N → N ≡ clusters s → a ≡ first (shared_at s) 0 (clusters s) → low ≡ first (short s fs) 0 (length fs) → leaks ≡ count (over s fs) 0 (length fs)
     → (if ltb a N then Shared a else if ltb low N then Short low else l1_verdict s (wrong_marks s fs) 0 (l1_entries s 0) (if ltb 0 leaks then Leaks leaks else Sound)) ≡ counts_verdict s fs
 unfolding counts_verdict
-counts_tell s fs N a low leaks hL hN ha hl hk = let e = hL ∙ hN in rw (hN, ha, hl, hk, e)
+counts_tell s fs N a low leaks h_l h_n ha hl hk = let e = h_l ∙ h_n in rw (h_n, ha, hl, hk, e)
 
 -- ---- a search is made with `Sound` first
 module _ (s fs : List ℕ) (v next : Verdict) (e : v ≡ l1_verdict s (wrong_marks s fs) 0 (l1_entries s 0) Sound) where

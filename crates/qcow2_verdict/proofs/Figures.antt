@@ -5,7 +5,7 @@ use mathlib.Core.Path.{◌≡◌, ap}
 use mathlib.Core.List.{List}
 use native.Mathlib.Omega.{arith}
 use lib.ListN.{length}
-use Rattle.tally.specs.States.{twos as twosFrom}
+use Rattle.tally.specs.States.{twos as twos_from}
 use Rattle.tally.proofs.Counting.{counting_first}
 use Rattle.packed_twos.specs.Twos.{twos, many, figures_in}
 use Rattle.qcow2_spec.specs.Check.{short, over}
@@ -13,9 +13,9 @@ use Rattle.qcow2_figures.specs.Known.{Judging}
 use Rattle.qcow2_figures.proofs.Compares.{length-figures}
 
 -- the figures of so many clusters
-pub figures_are : (f : List ℕ) (m : ℕ) → length f ≡ 2 * m → twosFrom f 0 m ≡ figures_in f
+pub figures_are : (f : List ℕ) (m : ℕ) → length f ≡ 2 * m → twos_from f 0 m ≡ figures_in f
 unfolding twos
-figures_are f m e = let k : m ≡ many f = omega (arith, e) in ap (twosFrom f 0) k
+figures_are f m e = let k : m ≡ many f = omega (arith, e) in ap (twos_from f 0) k
 
 pub length-is : (f : List ℕ) (m : ℕ) → length f ≡ 2 * m → length (figures_in f) ≡ m
 length-is f m e = omega (arith, length-figures f, e)
