@@ -13,18 +13,18 @@ INSTALL ?= install
 refuse_space = $(if $(filter-out 1,$(words [$($(1))])),$(error $(1) is '$($(1))': a path with a space is not supported))
 $(foreach name,PREFIX DESTDIR prefix bindir libdir includedir mandir,$(call refuse_space,$(name)))
 
-archive := target/staticlib/libqcow2_c.a
+archive := crates/qcow2_c/out/libqcow2_c.a
 qstore := tool/target/release/qstore
 version := $(shell sed -n 's/^version = "\(.*\)"/\1/p' tool/Cargo.toml | head -n 1)
-sources := crates.txt $(shell find crates -name '*.rt' -o -name '*.antt')
+sources := crates.txt $(shell find crates -name out -prune -o \( -name '*.rt' -o -name '*.antt' \) -print)
 installed := $(libdir)/libqcow2_c.a $(includedir)/qcow2_core.h $(libdir)/pkgconfig/qcow2_core.pc $(bindir)/qstore $(mandir)/man1/qstore.1
 
 all: $(archive) $(qstore)
 
-# Some minutes the first time.
+# The first time it proves every crate below, which takes long. rt ci removes the archive again.
 $(archive): $(sources)
 	@command -v rt >/dev/null || { echo "the command 'rt' of the Rattle kit is not on the PATH" >&2; exit 1; }
-	rt staticlib qcow2_c
+	cd crates/qcow2_c && rt lib
 
 # cargo knows what has changed.
 $(qstore): $(archive) FORCE

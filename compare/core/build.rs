@@ -1,5 +1,5 @@
 //! Links the proved static library: from QCOW2_CORE_LIB if set, else from
-//! target/staticlib at the root of the repository.
+//! crates/qcow2_c/out at the root of the repository.
 //!
 //! An archive may bring its own panic handler and parts of Rust's library,
 //! which must not meet those of the program. Where one shows more than the
@@ -18,8 +18,8 @@ fn main() {
     println!("cargo:rerun-if-changed={}", archive.display());
     if !archive.exists() {
         println!(
-            "cargo::error={} is missing: `rt staticlib qcow2_c` writes it to target/staticlib at \
-             the root of the repository; QCOW2_CORE_LIB names another directory",
+            "cargo::error={} is missing: `rt lib` in crates/qcow2_c writes it; QCOW2_CORE_LIB names \
+             another directory",
             archive.display()
         );
         return;
@@ -34,7 +34,7 @@ fn main() {
 
 fn default_dir() -> PathBuf {
     let here = env::var_os("CARGO_MANIFEST_DIR").expect("cargo sets CARGO_MANIFEST_DIR");
-    PathBuf::from(here).join("../../target/staticlib")
+    PathBuf::from(here).join("../../crates/qcow2_c/out")
 }
 
 /// The directory of a copy that shows only the calls; None where the archive

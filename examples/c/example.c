@@ -4,7 +4,7 @@
  * backing file. Prints each step and returns 0 only if every answer is the
  * expected one.
  *
- *   gcc -Wall -Wextra -std=c11 -I../../include example.c ../../target/staticlib/libqcow2_c.a -o example
+ *   gcc -Wall -Wextra -std=c11 -I../../include example.c ../../crates/qcow2_c/out/libqcow2_c.a -o example
  * or: make run
  */
 #include "qcow2_core.h"
