@@ -1,5 +1,5 @@
 //! `run-info` on what is no image file, and the small program where reading or
-//! writing fails. The program is that of `rt check image_info`.
+//! writing fails. The program is that of `rt run` in crates/image_info.
 
 mod common;
 
@@ -111,8 +111,8 @@ fn image_info(input: Stdio, output: Stdio) -> (String, String) {
 }
 
 fn program() -> Command {
-    let path = root().join("target/bin/image_info");
-    assert!(path.exists(), "`rt check image_info` builds {}", path.display());
+    let path = root().join("crates/image_info/out/image_info");
+    assert!(path.exists(), "`rt run` in crates/image_info builds {}", path.display());
     Command::new(path)
 }
 
@@ -133,9 +133,9 @@ fn the_program_without_its_streams() {
     let image = || Stdio::from(File::open(&copy.path).unwrap());
     assert_eq!(image_info(image(), Stdio::piped()), (SOUND.into(), String::new()));
     let error = image_info(image(), full()).1;
-    assert_eq!(error, "standard output: No space left on device\n");
+    assert_eq!(error, "standard output: No space left on device (os error 28)\n");
     let directory = File::open("/").expect("/");
-    let wanted = (String::new(), "standard input: Is a directory\n".into());
+    let wanted = (String::new(), "standard input: Is a directory (os error 21)\n".into());
     assert_eq!(image_info(directory.into(), Stdio::piped()), wanted);
 }
 
@@ -188,7 +188,8 @@ fn interrupted_reads_go_on_and_failed_ones_end() {
     assert_eq!(run(None), (SOUND.into(), String::new()));
     // The first 4,096 bytes alone would be an image too.
     for most in ["0", "1", "2"] {
-        assert_eq!(run(Some(most)), (String::new(), "standard input: Input/output error\n".into()));
+        let failed = "standard input: Input/output error (os error 5)\n";
+        assert_eq!(run(Some(most)), (String::new(), failed.into()));
     }
     fs::remove_file(library).unwrap();
 }
