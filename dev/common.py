@@ -1,13 +1,20 @@
-"""What the scripts of this folder share: the repository, its crates, rt, and edits."""
+"""What the scripts of this folder share: the repository, its crates, rt, copies, and edits."""
 import argparse
+import hashlib
+import os
 import pathlib
 import re
 import shutil
 import subprocess
 import sys
+import tempfile
 
 ROOT = pathlib.Path(__file__).resolve().parent.parent
 TARGET = ROOT / 'target'
+# The folders of a crate that a check reads.
+PARTS = ('src', 'specs', 'proofs')
+# Copies lie outside the repository: below it rt ci refuses the files of any crate but its own.
+COPIES = pathlib.Path(tempfile.gettempdir()) / f'{ROOT.name}-copies-{hashlib.sha256(str(ROOT).encode()).hexdigest()[:8]}'
 
 
 def fail(text):
@@ -21,13 +28,22 @@ def parser(usage):
     return argparse.ArgumentParser(description=usage, formatter_class=argparse.RawDescriptionHelpFormatter)
 
 
+def processors():
+    """How many processors there are for this command."""
+    return len(os.sched_getaffinity(0))
+
+
 # ---- crates
+
+def rows():
+    """The lines of crates.txt by the names of the crates."""
+    lines = [line.split('#')[0].strip() for line in (ROOT / 'crates.txt').read_text().splitlines()]
+    return {re.split('[ :]', line)[0]: line for line in lines if line}
+
 
 def uses():
     """The crates that crates.txt lists, each with the names of what it uses."""
-    lines = [line.split('#')[0] for line in (ROOT / 'crates.txt').read_text().splitlines()]
-    rows = [line.split(':', 1) for line in lines if ':' in line]
-    return {name.strip(): names.split() for name, names in rows}
+    return {name: line.partition(':')[2].split() for name, line in rows().items()}
 
 
 def crate(name):
@@ -50,42 +66,33 @@ def reached(name):
 
 # ---- rt
 
-def rt(*words, root=ROOT):
-    """Runs rt in a repository; its exit status and all that it said."""
+def rt(*words, at=ROOT):
+    """Runs rt in a folder; its exit status and all that it said."""
     try:
-        run = subprocess.run(['rt', *words], cwd=root, stdout=subprocess.PIPE, stderr=subprocess.STDOUT)
+        run = subprocess.run(['rt', *words], cwd=at, stdin=subprocess.DEVNULL, stdout=subprocess.PIPE, stderr=subprocess.STDOUT)
     except FileNotFoundError:
         fail("the command 'rt' of the Rattle kit is not on the PATH")
     return run.returncode, run.stdout.decode(errors='replace')
 
 
 def copied(name, kind):
-    """A repository of this crate and those below it, in target/KIND/CRATE, over what is proved of them already."""
-    room = TARGET / kind / name
+    """A repository of this crate and those below it alone, in COPIES/KIND. What rt check proved of them in any copy on this machine, rt
+    takes from there."""
+    room = COPIES / kind
     shutil.rmtree(room, ignore_errors=True)
-    (room / 'target').mkdir(parents=True)
-    shutil.copy(ROOT / 'crates.txt', room)
+    listed = rows()
     for each in reached(name):
-        shutil.copytree(ROOT / 'crates' / each, room / 'crates' / each, ignore=shutil.ignore_patterns('must-fail', 'wrong'))
-    for part in ('rlib', 'stamp'):
-        (room / 'target' / part).symlink_to(TARGET / part)
+        for part in PARTS:
+            if (ROOT / 'crates' / each / part).is_dir():
+                shutil.copytree(ROOT / 'crates' / each / part, room / 'crates' / each / part)
+    (room / 'crates.txt').write_text(''.join(f'{listed[each]}\n' for each in reached(name)))
     return room
-
-
-def pretty(text):
-    """The same with shorter terms, by the kit's own tool, which would take the file lib.rt for a module."""
-    tool = pathlib.Path(rt('doc')[1].strip()).parent.parent / 'tools/pretty.py'
-    if not tool.exists():
-        return text
-    said = text.replace('/lib.rt', '/lib\0rt').encode()
-    run = subprocess.run([sys.executable, tool], input=said, stdout=subprocess.PIPE, check=True)
-    return run.stdout.decode().replace('\0', '.')
 
 
 def blocks(text):
     """What rt said, in parts: a line at the margin and those below it that are further in."""
     parts = [[]]
-    for line in pretty(text).splitlines():
+    for line in text.splitlines():
         if line and not line.startswith(' '):
             parts.append([])
         parts[-1].append(line)
@@ -93,15 +100,16 @@ def blocks(text):
 
 
 def shown(text):
-    """The lines with errors, goals and verdicts; without notes, offered files and what stayed proved."""
-    dull = re.compile(r'help: write|note:|.*: note:|library|logic /|rt: .*unchanged since')
+    """The lines with errors, goals and verdicts; without advice, files to write, what stayed proved and what was loaded."""
+    dull = re.compile(r'help: (write|if|try)|note: (to see how|a goal may be|antt|finished)|.*: note: |checked \S+, \d+ of|ahead of'
+                      r'|(statements|library|logic|axioms|crate) |rt: (rt |chose|\S+: begins)')
     return [line for part in blocks(text) if not dull.match(part[0]) for line in part]
 
 
-def show(lines, cut, root=ROOT):
-    """Prints lines, each cut off, with paths from crates/ on."""
+def show(lines, cut):
+    """Prints lines, each cut off."""
     for line in lines:
-        print(line.replace(f'{root}/crates/', '')[:cut])
+        print(line[:cut])
 
 
 # ---- edits
@@ -132,7 +140,7 @@ def edited(folder, *paths):
     """The files of the crate that edits change, with their new text. Pairs are applied one after the other, as rt does."""
     texts = {}
     for name, old, new in (pair for path in paths for pair in edit_pairs(path)):
-        if not name or '..' in name.split('/') or name.split('/')[0] not in ('src', 'specs', 'proofs'):
+        if not name or '..' in name.split('/') or name.split('/')[0] not in PARTS:
             raise Fault(f"'file: {name}' is no file under src/, specs/ or proofs/")
         if not (folder / name).is_file():
             raise Fault(f'the crate has no {name}')

@@ -1,35 +1,75 @@
 """Wrong programs: the edits of crates/CRATE/wrong/, the groups of them that crates/CRATE/must-fail/ holds for rt, and what a check
-said of each. A check of a crate takes about as long with many wrong functions as with one, so the gate tries many at once. That each
-is refused for itself is read from the log: at the place that its `at:` line names, a declaration of a proof file or a need of a
-function without one, a fact fails (`at: proofs/bytes/Proof.antt returns`, `at: fn against::capped returns-2`)."""
+said of each. A check of a crate takes about as long with many wrong functions as with one, so many are tried at once. That each is
+refused for itself is read from what the check of its group says: at the place that its `at:` line names, a fact fails. A place is a
+declaration of a proof file, or a goal of a function that rattle's search does not prove (`at: proofs/bytes/Answers.antt returns`,
+`at: fn qcow2_under::against::capped returns-2`)."""
 import re
+import shutil
+from collections import defaultdict
+from concurrent.futures import ThreadPoolExecutor
 
-from common import Fault, edit_pairs, edited
+from common import Fault, copied, edit_pairs, edited, fail, rt
 
 # What antt says of a fact that does not hold: an equation, a bound, a proposition that is another one, or one without the term that
 # the proof goes on from.
-FACT = re.compile('no proof of|the goal does not follow|the two types|expected type|missing equation|of that as the last argument'
-                  '|no occurrence of the path|≟')
+FACT = re.compile('no proof of|found no proof|the goal does not follow|the two types|expected type|missing equation|do not join'
+                  '|of that as the last argument|no occurrence of the path|has an instance in the goal|rewrites nothing'
+                  '|stopped at its own limit|≟')
 # What follows from another error, or says only that the proof has not the shape of the code: a name that is missing, or the proof
-# of one need handed over for another.
-MISFIT = re.compile('was not admitted|has no (field )?`|can be named from here'
+# of one goal handed over for another.
+MISFIT = re.compile('was not admitted|was rejected|has no (field )?`|can be named from here|is not in scope|projects from a record'
                     r'|expected type `\S*Need-[^`]*`,?\s+but this has type `\S*Need-')
-ERROR = re.compile(r'[^\n]*?/target/must-fail/[^/]+/[^/]+/(\S+):\d+:\d+: error: `([^`]*)`: (.*)', re.DOTALL)
-UNPROVED = re.compile(r'fn \w+::(\S+): no proof: .*; `search` does not close (.*)')
-ITEM = re.compile(r'^(?:(?:pub|extern "C"|fn|const|struct|enum|data|record|unfoldable|abbrev) )*([^\W\d][\w-]*)', re.MULTILINE)
+ERROR = re.compile(r'(?:so far: )?(?:\./)?(\S+):\d+:\d+: error: `([^`]*)`: (.*)', re.DOTALL)
+# The answers that are not looked at, since what they rest on was refused; and an error that is none of one declaration, after which
+# the whole file may be unread.
+UNCHECKED = re.compile(r'(?:so far: )?(?:\./)?(proofs/\S+):\d+:\d+: error: \d+ declarations? .* not checked: (.*?)( and \d+ more)?$',
+                       re.MULTILINE)
+UNREAD = re.compile(r'(?:so far: )?(?:\./)?(proofs/\S+):\d+:\d+: error: (?!`[^`]*`: )')
+# A goal that the search did not prove comes before its function's own line, and where the function has no file in that line too.
+OPEN = re.compile(r'note: \S+:\d+:\d+: it is not proved that .*\(`([^`]+)`\)')
+FUNCTION = re.compile(r'fn (\S+): (.*)')
+UNPROVED = re.compile('`search` did not prove ([^;]*)')
+# Where a proof file has no answer any more for a goal of this kind, the goal has only another name.
+ALL = ''
+
+ITEM = re.compile(r'^(?!where\b)(?:(?:pub|extern "C"|fn|const|struct|enum|data|record|unfoldable|abbrev) )*([^\W\d][\w-]*)', re.MULTILINE)
 METHOD = re.compile(r'^    (?:pub )?fn (\w+)', re.MULTILINE)
 
 
+def lost_answers(parts):
+    """The kinds of the answers of each function's files that say nothing of a fact, since the code has not their goals any more; the
+    first word of a goal's name is its kind. ALL where it may be any: an invariant is gone, or a file was not read."""
+    lost = defaultdict(set)
+    for part in parts:
+        error, unchecked, unread = ERROR.match(part), UNCHECKED.match(part), UNREAD.match(part)
+        if error and error[1].startswith('proofs/') and MISFIT.search(error[3]):
+            kind = error[2].split('-')[0]
+            lost[proof_of(f'{error[1]} {error[2]}')].add(ALL if kind in ('invariant', 'decreases') else kind)
+        elif unchecked:
+            names = unchecked[2].split(', ')
+            lost[proof_of(f'{unchecked[1]} _')].update([ALL] if unchecked[3] else [name.split('-')[0] for name in names])
+        elif unread:
+            lost[proof_of(f'{unread[1]} _')].add(ALL)
+    return lost
+
+
 def places(log):
-    """Each place with an error that a log has, in order, and whether a fact fails there."""
-    found = {}
-    for part in re.split(r'\n(?=\S)', log):
-        error, unproved = ERROR.match(part), UNPROVED.match(part)
-        if error:
+    """Each place with an error that a check's output has, in order, and whether a fact fails there."""
+    found, left = {}, []
+    parts = re.split(r'\n(?=\S)', log)
+    lost = lost_answers(parts)
+    for part in parts:
+        if error := ERROR.match(part):
             place = f'{error[1]} {error[2]}'
             found[place] = found.get(place, False) or bool(FACT.search(error[3]) and not MISFIT.search(error[3]))
-        elif unproved:
-            found.update({f'fn {unproved[1]} {need}': True for need in re.findall('`([^`]*)`', unproved[2])})
+        elif goal := OPEN.match(part):
+            left.append(goal[1])
+        elif function := FUNCTION.match(part):
+            said = UNPROVED.search(function[2])
+            goals = dict.fromkeys([*left, *(re.findall('`([^`]*)`', said[1]) if said else [])])
+            kinds = lost[proof_of(f'fn {function[1]} _')]
+            found.update({f'fn {function[1]} {goal}': not {ALL, goal.split('-')[0]} & kinds for goal in goals})
+            left = []
     return found
 
 
@@ -41,9 +81,10 @@ def programs(folder):
 
 
 def place_of(path):
-    """The place at which a wrong program must be refused; None where no line says it."""
+    """The place at which a wrong program must be refused; None where no line says it. A function may stand without its crate."""
     found = re.findall('^at: (.*)$', path.read_text(), re.MULTILINE)
-    return found[0] if len(found) == 1 else None
+    name = path.parent.parent.name
+    return re.sub(f'^fn (?!{name}::)', f'fn {name}::', found[0]) if len(found) == 1 else None
 
 
 def item(text):
@@ -53,21 +94,34 @@ def item(text):
     return f'{text[last.end():].split()[0]}::{methods[-1]}' if last[1] == 'impl' and methods else last[1]
 
 
-def items(folder, path):
-    """The functions, constants and definitions that a wrong program changes; lines that only import are none."""
-    found, texts = set(), {}
+def changes(folder, path):
+    """What each pair of a wrong program changes: the file, its text up to the old one's end, and the old text."""
+    texts = {}
     for name, old, new in edit_pairs(path):
         before, _, after = (texts.get(name) or (folder / name).read_text()).partition(old)
         texts[name] = before + new + after
-        found.add(f'{name} {item(before + old)}')
+        yield name, before + old, old
+
+
+def items(folder, path):
+    """The functions, constants and definitions that a wrong program changes; lines that only import are none."""
+    found = {f'{name} {item(text)}' for name, text, _ in changes(folder, path)}
     return {changed for changed in found if not changed.endswith(' use')}
+
+
+def in_contract(text, old):
+    """Whether an old text, with which a text of a source file ends, stands in a line of a contract."""
+    line = text[:len(text) - len(old)].rpartition('\n')[2] + old
+    return line.split()[:1] in (['requires'], ['ensures'])
 
 
 def functions(folder, path):
     """The functions whose bodies a wrong program changes, as their proofs' folders are named; None where it changes what other
     functions or lemmas see: a definition, a constant or a contract."""
     changed = [found.split(' ') for found in items(folder, path)]
-    if any('⌜' in old for _, old, _ in edit_pairs(path)) or not all(file.startswith('src/') and name.split('::')[-1].islower() for file, name in changed):
+    if any(in_contract(text, old) for _, text, old in changes(folder, path)):
+        return None
+    if not all(file.startswith('src/') and name.split('::')[-1].islower() for file, name in changed):
         return None
     return {f"{file[len('src/'):-len('.rt')]}/{name}".replace('lib/', '', 1).replace('::', '/') for file, name in changed}
 
@@ -75,7 +129,9 @@ def functions(folder, path):
 def proof_of(place):
     """The function in whose proof a place is, likewise."""
     file, name = place.split(' ')[:2]
-    return name.replace('::', '/') if file == 'fn' else file[len('proofs/'):].replace('/Proof.antt', '').replace('+', '')
+    if file == 'fn':
+        return name.partition('::')[2].replace('::', '/')
+    return file[len('proofs/'):].rpartition('/')[0].replace('+', '')
 
 
 def is_own(folder, path, place):
@@ -83,6 +139,15 @@ def is_own(folder, path, place):
     function can break; what more of the crate sees is refused wherever that is used."""
     bodies = functions(folder, path)
     return bodies is None or proof_of(place) in bodies
+
+
+def is_there(folder, place):
+    """Whether the crate has a place, as far as texts tell: a declaration of a file."""
+    file, name = place.split(' ')[:2]
+    if file == 'fn':
+        return True
+    declared = rf'^ *(?:(?:pub|abbrev|unfoldable|record|data) )*{re.escape(name)}(?= |$)'
+    return (folder / file).is_file() and bool(re.search(declared, (folder / file).read_text(), re.MULTILINE))
 
 
 # ---- groups
@@ -101,25 +166,37 @@ def groups(folder):
 def applies(folder, labels):
     """Whether these wrong programs can be one: they change different functions, and each text is there when its turn comes."""
     paths = [folder / f'wrong/{label}.edit' for label in labels]
-    changed = [found for path in paths for found in items(folder, path)]
     try:
         edited(folder, *paths)
+        changed = [found for path in paths for found in items(folder, path)]
     except Fault:
         return False
     return len(changed) == len(set(changed))
 
 
+def program_fault(folder, path):
+    """What is wrong with a wrong program as it is written; None where nothing is."""
+    try:
+        edited(folder, path)
+    except Fault as why:
+        return str(why)
+    place = place_of(path)
+    if not place:
+        return "not one 'at:' line"
+    if not is_own(folder, path, place):
+        return f'its place is in the proof of another function: {place}'
+    return None if is_there(folder, place) else f'the crate has not its place: {place}'
+
+
 def group_faults(folder):
-    """What is wrong with the groups of a crate as they are written, a line each."""
+    """What is wrong with the wrong programs and the groups of a crate as they are written, a line each."""
     wrong, held = programs(folder), groups(folder)
     members = [label for labels in held.values() for label in labels]
     for label, path in wrong.items():
         if members.count(label) != 1:
             yield f'{label}: in {members.count(label)} groups of must-fail/'
-        if not place_of(path):
-            yield f"{label}: not one 'at:' line"
-        elif not is_own(folder, path, place_of(path)):
-            yield f'{label}: its place is in the proof of another function'
+        if fault := program_fault(folder, path):
+            yield f'{label}: {fault}'
     for name, labels in held.items():
         at = [place_of(wrong[label]) for label in labels if label in wrong]
         if not set(labels) <= set(wrong) or (folder / f'must-fail/{name}.edit').read_text() != group_text(folder, labels):
@@ -129,6 +206,44 @@ def group_faults(folder):
 
 
 def not_shown(folder, labels, log):
-    """Those of a group at whose place its log has no fact that fails."""
+    """Those of a group at whose place a check's output has no fact that fails."""
     found, wrong = places(log), programs(folder)
     return [label for label in labels if label in wrong and not found.get(place_of(wrong[label]))]
+
+
+# ---- trying
+
+def is_refused(status, log):
+    """Whether the prover refused what was checked. A text that the front end refuses, and a limit, are no refusal."""
+    return status == 1 and '\nlogic=not-proved' in log
+
+
+def checked(folder, texts):
+    """The check of a copy of a crate with these texts in the place of its own: its status and what it said."""
+    were = {name: (folder / name).read_text() for name in texts}
+    try:
+        for name, new in texts.items():
+            (folder / name).write_text(new)
+        return rt('check', '--jobs', '1', at=folder)
+    finally:
+        for name, old in were.items():
+            (folder / name).write_text(old)
+
+
+def tried(name, edits, kind, at_once=1):
+    """What the check of a crate says with each of these edits, which are new texts of its files, by their labels. Each is checked over
+    what the check of the crate as it is kept, in copies that are removed again."""
+    def some(number):
+        folder = copied(name, f'{kind}/{name}.{number}') / 'crates' / name
+        try:
+            if checked(folder, {})[0] != 0:
+                fail(f'{name} is not proved as it is')
+            return {label: checked(folder, edits[label]) for label in list(edits)[number::at_once]}
+        finally:
+            shutil.rmtree(folder.parent.parent)
+
+    at_once = min(at_once, len(edits))
+    if not edits:
+        return {}
+    with ThreadPoolExecutor(at_once) as pool:
+        return {label: said for part in pool.map(some, range(at_once)) for label, said in part.items()}
