@@ -8,7 +8,7 @@ import shutil
 from collections import defaultdict
 from concurrent.futures import ThreadPoolExecutor
 
-from common import Fault, copied, edit_pairs, edited, fail, rt
+from common import Fault, copied, edit_pairs, edited, rt
 
 # What antt says of a fact that does not hold: an equation, a bound, a proposition that is another one, or one without the term that
 # the proof goes on from.
@@ -237,7 +237,7 @@ def tried(name, edits, kind, at_once=1):
         folder = copied(name, f'{kind}/{name}.{number}') / 'crates' / name
         try:
             if checked(folder, {})[0] != 0:
-                fail(f'{name} is not proved as it is')
+                raise Fault(f'{name} is not proved as it is')
             return {label: checked(folder, edits[label]) for label in list(edits)[number::at_once]}
         finally:
             shutil.rmtree(folder.parent.parent)
