@@ -27,7 +27,7 @@ UNCHECKED = re.compile(r'(?:so far: )?(?:\./)?(proofs/\S+):\d+:\d+: error: \d+ d
 UNREAD = re.compile(r'(?:so far: )?(?:\./)?(proofs/\S+):\d+:\d+: error: (?!`[^`]*`: )')
 # A goal that the search did not prove comes before its function's own line, and where the function has no file in that line too.
 OPEN = re.compile(r'note: \S+:\d+:\d+: it is not proved that .*\(`([^`]+)`\)')
-FUNCTION = re.compile(r'fn (\S+): (.*)')
+FUNCTION = re.compile(r'fn (.+?): (.*)')
 UNPROVED = re.compile('`search` did not prove ([^;]*)')
 # Where a proof file has no answer any more for a goal of this kind, the goal has only another name.
 ALL = ''
