@@ -237,7 +237,7 @@ def tried(name, edits, kind, at_once=1):
         folder = copied(name, f'{kind}/{name}.{number}') / 'crates' / name
         try:
             if checked(folder, {})[0] != 0:
-                raise Fault(f'{name} is not proved as it is')
+                raise Fault('it is not proved as it is')
             return {label: checked(folder, edits[label]) for label in list(edits)[number::at_once]}
         finally:
             shutil.rmtree(folder.parent.parent)
