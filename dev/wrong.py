@@ -29,7 +29,7 @@ UNREAD = re.compile(r'(?:so far: )?(?:\./)?(proofs/\S+):\d+:\d+: error: (?!`[^`]
 OPEN = re.compile(r'note: \S+:\d+:\d+: it is not proved that .*\(`([^`]+)`\)')
 FUNCTION = re.compile(r'fn (.+?): (.*)')
 UNPROVED = re.compile('`search` did not prove ([^;]*)')
-# Where a proof file has no answer any more for a goal of this kind, the goal has only another name.
+# Every kind of goal.
 ALL = ''
 
 ITEM = re.compile(r'^(?!where\b)(?:(?:pub|extern "C"|fn|const|struct|enum|data|record|unfoldable|abbrev) )*([^\W\d][\w-]*)', re.MULTILINE)
@@ -37,8 +37,9 @@ METHOD = re.compile(r'^    (?:pub )?fn (\w+)', re.MULTILINE)
 
 
 def lost_answers(parts):
-    """The kinds of the answers of each function's files that say nothing of a fact, since the code has not their goals any more; the
-    first word of a goal's name is its kind. ALL where it may be any: an invariant is gone, or a file was not read."""
+    """The kinds of goals whose answers each function has lost: a goal of such a kind that the search does not prove may be one that has
+    only another name than its answer. The first word of a goal's name is its kind. An invariant that is gone, and a file that was not
+    read, may have been for any."""
     lost = defaultdict(set)
     for part in parts:
         error, unchecked, unread = ERROR.match(part), UNCHECKED.match(part), UNREAD.match(part)
