@@ -1,6 +1,7 @@
 use native.Mathlib.Omega.{arith}
 use Prim.Native.Nat.{◌+◌, ◌-◌, ◌^◌, ◌≤◌}
-use mathlib.Core.Path.{refl, sym, ◌∙◌}
+use mathlib.Core.Path.{◌≡◌, refl, sym, ◌∙◌}
+use mathlib.Core.Bool.{false}
 use Rattle.packed.specs.Packed.{zero_at}
 use Rattle.packed.proofs.Laws.{lie_few}
 use Rattle.packed_search.proofs.Groups.{lie_fewer, group-next, group_missed}
@@ -35,7 +36,8 @@ loop-k-preserved c =
     let a = c.args in
     let p = c.power-step in
     let h : t.k + p.result ≤ a.end = omega (arith, t.invariant.0, c.loop-k-test.true) in
-    let m = group_missed (zero_at a.order a.block.now) t.k (2 ^ (8 - a.order)) p.result a.end p.ensures.0 h (sym c.zero_near.ensures ∙ c.if-zero_near.false) in
+    let z : c.zero_near.result ≡ false = cc in
+    let m = group_missed (zero_at a.order a.block.now) t.k (2 ^ (8 - a.order)) p.result a.end p.ensures.0 h (sym c.zero_near.ensures ∙ z) in
     (h, (group-next a.order 5 t.k p.result (omega (arith, c.requires.0.0.few)) p.ensures.0 t.invariant.1.0, t.invariant.1.1 ∙ m))
 
 pub lowest_each-requires-2 : goal.lowest_each-requires-2
