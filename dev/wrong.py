@@ -34,6 +34,7 @@ ALL = ''
 
 ITEM = re.compile(r'^(?!where\b)(?:(?:pub|extern "C"|fn|const|struct|enum|data|record|unfoldable|abbrev) )*([^\W\d][\w-]*)', re.MULTILINE)
 METHOD = re.compile(r'^    (?:pub )?fn (\w+)', re.MULTILINE)
+IMPL = re.compile(r' (?:(\w+)(?:<(\w+)>)? for )?(\w+)')
 
 
 def lost_answers(parts):
@@ -89,10 +90,14 @@ def place_of(path):
 
 
 def item(text):
-    """The function, constant or definition in which a text ends; a method has its type's name before its own."""
+    """The function, constant or definition in which a text ends; a method has its type's name before its own, and one of a trait the
+    name of the trait after that, as the folders of proofs/ have it: `U32Word` of `impl Word for u32`, `RefusalFromCause`."""
     last = list(ITEM.finditer(text))[-1]
     methods = METHOD.findall(text[last.end():])
-    return f'{text[last.end():].split()[0]}::{methods[-1]}' if last[1] == 'impl' and methods else last[1]
+    if last[1] != 'impl' or not methods:
+        return last[1]
+    trait, of, kind = IMPL.match(text[last.end():]).groups()
+    return f'{kind[0].upper() + kind[1:] + trait + (of or "") if trait else kind}::{methods[-1]}'
 
 
 def changes(folder, path):

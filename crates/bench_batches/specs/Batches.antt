@@ -1,7 +1,7 @@
 -- Batches on the bench image and on that image with an L2 table: the bytes of each phase, what may be stored together, and what planning call by call is
 -- told. It is proved in proofs/Batches.antt.
 -- Assumes nothing.
-use Rattle.std.specs.Prelude.{ℕ, ◌+◌, ◌*◌, ◌≡◌, List, [], ◌∷◌}
+use Rattle.std.specs.Prelude.{ℕ, ◌+◌, ◌*◌, ◌≡◌, List, [], ◌∷◌, Err, Ok, Result}
 use Rattle.std.proofs.lemmas.List.Edits.{sets}
 use Rattle.endian.specs.Big.{bytes64}
 use Rattle.units.specs.Units.{UnitStore}
@@ -12,7 +12,7 @@ use Rattle.qcow2_batches.specs.Batch.{memory}
 use Rattle.qcow2_batches.specs.Rows.{answered, rows_left}
 use Rattle.qcow2_batches.specs.Told.{Told}
 use Rattle.qcow2_batches.specs.declared.Planned.{Planned}
-use Rattle.qcow2_batches.specs.declared.Planned.TheVariants.{Refused, Ends, Rows}
+use Rattle.qcow2_batches.specs.declared.Planned.TheVariants.{Ends, Rows}
 use Rattle.bench_table.specs.Bench.{zeros, bench, one_bit, marked}
 use Rattle.bench_table.specs.Table.{written}
 
@@ -83,7 +83,7 @@ pub record Phases (store : Plan → ℕ → List ℕ → List ℕ) (phases : (ba
 
 -- ---- planning call by call
 -- the answer to a request on the image s, of which k rows are held, and the rows that are left
-abbrev pub answers : (s : List ℕ) → Request → (k : ℕ) → (rows : List ℕ) → Planned
+abbrev pub answers : (s : List ℕ) → Request → (k : ℕ) → (rows : List ℕ) → Result Planned ℕ
 answers s r k rows = answered s (plan_of [] s r) k rows
 
 abbrev pub leaves : (s : List ℕ) → Request → (k : ℕ) → (rows : List ℕ) → List ℕ
@@ -91,24 +91,24 @@ leaves s r k rows = rows_left s (plan_of [] s r) k rows
 
 -- how many rows each kind of call has, and how many numbers it needs for them
 pub record Answers : Type 0 where
-  pub clearing : answers (marked 3) first 0 (zeros 28) ≡ Rows 7
-  pub new_table : answers bench first 0 (zeros 27) ≡ Rows 6
-  pub no_room : answers bench first 0 (zeros 23) ≡ Ends
-  pub new_cluster : answers (tabled 5) second 0 (zeros 12) ≡ Rows 3
-  pub discarded : answers (tabled 5) (discard 65) 0 (zeros 8) ≡ Rows 2
-  pub in_place : answers (tabled 5) first 0 (zeros 4) ≡ Rows 1
-  pub no_bytes : answers (tabled 5) (write 0 []) 0 [] ≡ Rows 0
-  pub past_end : answers bench (write 65536 (1 ∷ [])) 0 [] ≡ Refused 11
+  pub clearing : answers (marked 3) first 0 (zeros 28) ≡ Ok (Rows 7)
+  pub new_table : answers bench first 0 (zeros 27) ≡ Ok (Rows 6)
+  pub no_room : answers bench first 0 (zeros 23) ≡ (Ok Ends)
+  pub new_cluster : answers (tabled 5) second 0 (zeros 12) ≡ Ok (Rows 3)
+  pub discarded : answers (tabled 5) (discard 65) 0 (zeros 8) ≡ Ok (Rows 2)
+  pub in_place : answers (tabled 5) first 0 (zeros 4) ≡ Ok (Rows 1)
+  pub no_bytes : answers (tabled 5) (write 0 []) 0 [] ≡ Ok (Rows 0)
+  pub past_end : answers bench (write 65536 (1 ∷ [])) 0 [] ≡ Err 11
   -- beside held rows
-  pub held : answers (tabled 5) (discard 65) 3 (zeros 20) ≡ Rows 5
-  pub held-room : answers (tabled 5) (discard 65) 3 (zeros 19) ≡ Ends
+  pub held : answers (tabled 5) (discard 65) 3 (zeros 20) ≡ Ok (Rows 5)
+  pub held-room : answers (tabled 5) (discard 65) 3 (zeros 19) ≡ (Ok Ends)
   -- beside the row of a count that rises or falls: one that falls, one that rises, and a neighbour that rises
-  pub rises_falls : answers (tabled 5) (discard 65) 1 (1034 ∷ 2 ∷ 1 ∷ 1 ∷ zeros 8) ≡ Ends
-  pub falls_falls : answers (tabled 5) (discard 65) 1 (1034 ∷ 2 ∷ 1 ∷ 3 ∷ zeros 8) ≡ Rows 3
-  pub falls_rises : answers (tabled 6) second 1 (1034 ∷ 2 ∷ 1 ∷ 3 ∷ zeros 12) ≡ Ends
-  pub beside : answers (tabled 6) second 1 (1032 ∷ 2 ∷ 1 ∷ 3 ∷ zeros 12) ≡ Rows 4
+  pub rises_falls : answers (tabled 5) (discard 65) 1 (1034 ∷ 2 ∷ 1 ∷ 1 ∷ zeros 8) ≡ (Ok Ends)
+  pub falls_falls : answers (tabled 5) (discard 65) 1 (1034 ∷ 2 ∷ 1 ∷ 3 ∷ zeros 8) ≡ Ok (Rows 3)
+  pub falls_rises : answers (tabled 6) second 1 (1034 ∷ 2 ∷ 1 ∷ 3 ∷ zeros 12) ≡ (Ok Ends)
+  pub beside : answers (tabled 6) second 1 (1032 ∷ 2 ∷ 1 ∷ 3 ∷ zeros 12) ≡ Ok (Rows 4)
   -- a row that is not held says nothing
-  pub not-held : answers (tabled 6) second 0 (1034 ∷ 2 ∷ 1 ∷ 3 ∷ zeros 12) ≡ Rows 3
+  pub not-held : answers (tabled 6) second 0 (1034 ∷ 2 ∷ 1 ∷ 3 ∷ zeros 12) ≡ Ok (Rows 3)
 
 -- the rows themselves
 pub record Left : Type 0 where

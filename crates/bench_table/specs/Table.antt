@@ -1,7 +1,7 @@
 -- The starred lines of paper 01, "The bench image", its lines on the header, paper 02's T-03 on that image, and runs of its bytes, as one
 -- table. It is proved in crate bench_starred.
 -- Assumes nothing.
-use Rattle.std.specs.Prelude.{ℕ, ◌≡◌, List, [], ◌∷◌, ◌++◌, length, get_or, take, replicate}
+use Rattle.std.specs.Prelude.{ℕ, ◌≡◌, List, [], ◌∷◌, ◌++◌, length, get_or, take, replicate, Err, Ok}
 use Rattle.std.proofs.lemmas.List.Edits.{sets}
 use Rattle.std.proofs.Math.IntN.{sub_ℕ}
 use Rattle.endian.specs.Big.{be64, bytes32, bytes64, part}
@@ -13,7 +13,6 @@ use Rattle.qcow2_spec.specs.Guest.{guest_bytes, read_number}
 use Rattle.qcow2_spec.specs.Runs.{run_rows, list_runs}
 use Rattle.qcow2_spec.specs.Store.{write_plan, discard_plan}
 use Rattle.qcow2_spec.specs.Check.{verdict, repair_plan}
-use Rattle.qcow2_spec.specs.declared.Listed.TheVariants.{Refused, Rows}
 use Rattle.qcow2_spec.specs.declared.Verdict.TheVariants.{Sound, Leaks}
 use Rattle.bench_table.specs.Bench.{bench, bench_with, marked, widthed, one_bit, two_bits, four_bits, eight_bits, wide_bits, widest_bits}
 
@@ -104,9 +103,9 @@ stale store five = sets (written store five 1028) 2063 (1 ∷ [])
 
 -- runs of guest bytes: their kind, host offset and length
 pub record Runs (store : Plan → ℕ → List ℕ → List ℕ) (five : List ℕ) (x y z : ℕ) : Type 0 where
-  pub none : list_runs [] bench 0 65536 0 2 ≡ Rows 0
-  pub past : list_runs [] bench 0 65536 1 2 ≡ Refused 11
-  pub last : list_runs [] bench 0 65533 3 2 ≡ Rows 1
+  pub none : list_runs [] bench 0 65536 0 2 ≡ Ok 0
+  pub past : list_runs [] bench 0 65536 1 2 ≡ Err 11
+  pub last : list_runs [] bench 0 65533 3 2 ≡ Ok 1
   pub absent : run_rows bench 0 65533 3 2 ≡ 1003 ∷ 0 ∷ 3 ∷ []
   pub begins : run_rows (written store five 1028) 0 33278 4 2 ≡ 1003 ∷ 0 ∷ 2 ∷ 0 ∷ 2560 ∷ 2 ∷ []
   pub apart : run_rows (turned store five x) 0 33278 4 2 ≡ 0 ∷ 3582 ∷ 2 ∷ 0 ∷ 2560 ∷ 2 ∷ []

@@ -28,7 +28,7 @@ fn differ(scratch: &[u8], bits: &[u8], i: usize) -> u64
     requires { (16 * i + 16 ≤ length scratch.now) × (i < length bits.now) }
     ensures { result ≡ 0 → Alike scratch.now bits.now (8 * i) (8 * i + 8) }
 {
-    let x = endian::wide64(bits[i]);
+    let x = u64::from(bits[i]);
     let low = endian::load64(scratch, 16 * i) ^ spread(x % 16);
     let high = endian::load64(scratch, 16 * i + 8) ^ spread(x / 16);
     low | high
@@ -40,10 +40,8 @@ fn group(scratch: &[u8], bits: &[u8], i: usize) -> u64
     ensures { result ≡ 0 → Alike scratch.now bits.now (8 * i) (8 * i + 256) }
 {
     let mut found: u64 = 0;
-    let mut j = 0;
-    while j < GROUP {
-        found = found | differ(scratch, bits, i + j);
-        j += 1;
+    for j in 0..GROUP {
+        found |= differ(scratch, bits, i + j);
     }
     found
 }
@@ -53,12 +51,10 @@ fn groups(scratch: &[u8], bits: &[u8], n: usize) -> bool
     requires { (512 * n ≤ length scratch.now) × (32 * n ≤ length bits.now) }
     ensures { result ≡ true → Alike scratch.now bits.now 0 (256 * n) }
 {
-    let mut g = 0;
-    while g < n {
+    for g in 0..n {
         if group(scratch, bits, GROUP * g) != 0 {
             return false;
         }
-        g += 1;
     }
     true
 }
@@ -68,12 +64,10 @@ fn bytes(scratch: &[u8], bits: &[u8], i: usize, n: usize) -> bool
     requires { (16 * n ≤ length scratch.now) × (n ≤ length bits.now) }
     ensures { result ≡ true → Alike scratch.now bits.now (8 * i) (8 * n) }
 {
-    let mut j = i;
-    while j < n {
+    for j in i..n {
         if differ(scratch, bits, j) != 0 {
             return false;
         }
-        j += 1;
     }
     true
 }
@@ -83,12 +77,10 @@ fn singles(scratch: &[u8], bits: &[u8], i: usize, k: usize) -> bool
     requires { (2 * k ≤ length scratch.now) × (k ≤ 8 * length bits.now) }
     ensures { result ≡ true → Alike scratch.now bits.now i k }
 {
-    let mut j = i;
-    while j < k {
-        if endian::load16(scratch, 2 * j) as u64 != widths::load(bits, 0, j) {
+    for j in i..k {
+        if u64::from(endian::load16(scratch, 2 * j)) != widths::load(bits, 0, j) {
             return false;
         }
-        j += 1;
     }
     true
 }
@@ -98,11 +90,7 @@ pub fn same(scratch: &[u8], bits: &[u8], k: usize) -> bool
     requires { (2 * k ≤ length scratch.now) × (k ≤ 8 * length bits.now) }
     ensures { result ≡ true → (j : ℕ) → j < k → be16 scratch.now (2 * j) ≡ number 1 bits.now j }
 {
-    if !groups(scratch, bits, k / 256) {
-        return false;
-    }
-    if !bytes(scratch, bits, k / 256 * 32, k / 8) {
-        return false;
-    }
-    singles(scratch, bits, k / 8 * 8, k)
+    groups(scratch, bits, k / 256)
+        && bytes(scratch, bits, k / 256 * 32, k / 8)
+        && singles(scratch, bits, k / 8 * 8, k)
 }

@@ -9,10 +9,8 @@ pub fn all_zeros(part: &[u8]) -> bool
     ensures { result ≡ all (λ b. eqb b 0) part.now }
 {
     let mut seen: u8 = 0;
-    let mut k = 0;
-    while k < part.len() {
-        seen |= part[k];
-        k += 1;
+    for b in part {
+        seen |= *b;
     }
     seen == 0
 }
@@ -22,6 +20,7 @@ pub fn all_clear(part: &[u8]) -> bool
     ensures { result ≡ all (λ b. eqb b 0) part.now }
 {
     let mut at = 0;
+    // A `while`: it goes on by groups, and what is left after the last is looked at by itself.
     while 512 <= part.len() - at {
         if all_zeros(&part[at..at + 512]) {
             at += 512;

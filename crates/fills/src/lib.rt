@@ -11,7 +11,7 @@ fn lay(part: &mut [u8], base: &[u8], at: usize, end: usize)
     requires { (at ≤ end) × (end ≤ length part.old) }
     ensures { part.new ≡ splice part.old at (take (end - at) (drop at (padded (length part.old) base.now))) }
 {
-    let b = power::lesser(base.len(), end);
+    let b = base.len().min(end);
     if at < b {
         copy::bytes(part, at, &base[at..b], b - at);
         copy::zeros(part, b, end - b);
@@ -25,9 +25,9 @@ fn fill_part(part: &mut [u8], base: &[u8], src: &[u8], o: usize, left: usize) ->
     requires { (o + length src.now ≤ length part.old) × (length base.now ≤ length part.old) }
     ensures { (result ≡ min left (length part.old)) × (part.new ≡ splice part.old 0 (take result (splice (padded (length part.old) base.now) o src.now))) }
 {
-    let k = power::lesser(left, part.len());
-    let a = power::lesser(k, o);
-    let b = power::lesser(k - a, src.len());
+    let k = left.min(part.len());
+    let a = k.min(o);
+    let b = (k - a).min(src.len());
     lay(part, base, 0, a);
     copy::bytes(part, a, src, b);
     lay(part, base, a + b, k);
@@ -55,7 +55,7 @@ pub fn store_bytes(image: &mut [u8], at: usize, src: &[u8], left: usize) -> usiz
     requires { at + length src.now ≤ length image.old }
     ensures { (result ≡ left - length src.now) × (image.new ≡ apply_all (take left (fill at src.now)) image.old) }
 {
-    let k = power::lesser(left, src.len());
+    let k = left.min(src.len());
     copy::bytes(image, at, src, k);
     left - k
 }

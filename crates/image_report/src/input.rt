@@ -1,16 +1,8 @@
 // An image read to its end.
 ghost use Rattle.std.specs.Io.{ReadsAtMost};
-ghost use Rattle.image_report.specs.Input.{Within};
 
 use std::io;
 use std::io::{ErrorKind, Read};
-
-// How many bytes were read to the end of the input or of the buffer, or that a read failed, and why.
-#[derive(Drop)]
-pub enum Input {
-    Bytes(usize),
-    Failed(io::Error),
-}
 
 fn is_interrupted(got: &io::Result<usize>) -> bool {
     match got {
@@ -33,21 +25,19 @@ fn read_once<R: Read>(from: &mut R, part: &mut [u8]) -> io::Result<usize>
     from.read(part)
 }
 
-// Reads until the input ends or the buffer is full. A read that gives less than was asked, as from a pipe, is not the end.
-pub fn read_image<R: Read>(from: &mut R, buf: &mut [u8]) -> Input
-    ensures { Within result buf.new }
+// Reads until the input ends or the buffer is full, and says how many bytes that were. A read that gives less than was asked, as from a pipe, is not
+// the end.
+pub fn read_image<R: Read>(from: &mut R, buf: &mut [u8]) -> io::Result<usize>
+    ensures { ReadsAtMost result buf.new }
 {
     let mut done = 0;
+    // A `while`: how much a read gives is known only after it.
     while done < buf.len() {
-        match read_once(from, &mut buf[done..]) {
-            Err(e) => return Input::Failed(e),
-            Ok(n) => {
-                if n == 0 {
-                    break;
-                }
-                done += n;
-            }
+        let n = read_once(from, &mut buf[done..])?;
+        if n == 0 {
+            break;
         }
+        done += n;
     }
-    Input::Bytes(done)
+    Ok(done)
 }

@@ -5,8 +5,7 @@ mod input;
 
 ghost use Rattle.qcow2_spec.specs.Opened.{Opened};
 
-use input::Input;
-use qcow2_spec::{Geometry, Judged, Verdict};
+use qcow2_spec::{Geometry, Verdict};
 use std::io;
 use std::io::{Eprint, Read, Write};
 
@@ -23,10 +22,9 @@ fn accepted<W: Write>(out: &mut W, image: &[u8], g: Geometry, v: Verdict) -> io:
 // Writes what is to be said of an image. The scratch has two bytes for each cluster of it.
 fn report<W: Write>(out: &mut W, image: &[u8], scratch: &mut [u8]) -> io::Result<()> {
     let v = qcow2::check(image, &image[0..0], scratch);
-    let j = qcow2_header::judge(image, false);
-    match j {
-        Judged::Refused(k) => image_words::refused(out, k),
-        Judged::Accepted(g) => accepted(out, image, g, v),
+    match qcow2_header::judge(image, false) {
+        Err(why) => image_words::refused(out, why),
+        Ok(g) => accepted(out, image, g, v),
     }
 }
 
@@ -50,8 +48,8 @@ pub fn tell<E: Eprint, R: Read, W: Write>(rt: &E, from: &mut R, name: &str, to: 
     let mut input = [0u8; 65537];
     let mut scratch = [0u8; 256];
     match input::read_image(from, &mut input) {
-        Input::Failed(why) => fail(rt, name, why),
-        Input::Bytes(n) => {
+        Err(why) => fail(rt, name, why),
+        Ok(n) => {
             if let Err(why) = report_read(to, &input[..n], &mut scratch) {
                 fail(rt, "standard output", why);
             }

@@ -5,6 +5,7 @@
 ghost use Rattle.std.specs.Prelude.{◌≤◌};
 ghost use Rattle.qcow2_spec.specs.Header.{most_bits};
 
+use qcow2_spec::refusal::Refusal;
 use qcow2_spec::{Geometry, Verdict};
 use std::io;
 use std::io::Write;
@@ -22,9 +23,9 @@ fn line_end<W: Write>(out: &mut W) -> io::Result<()> {
     out.write_all(b"\n")
 }
 
-pub fn refused<W: Write>(out: &mut W, k: u8) -> io::Result<()> {
+pub fn refused<W: Write>(out: &mut W, why: Refusal) -> io::Result<()> {
     out.write_all(b"refused")?;
-    field(out, k as u64)?;
+    field(out, why.number() as u64)?;
     line_end(out)
 }
 

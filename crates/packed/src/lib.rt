@@ -17,7 +17,7 @@ pub fn turned16(b: &[u8], at: usize) -> u16
     requires { at + 2 ≤ length b.now }
     ensures { result ≡ lanes 2 (bytes_at b.now at) }
 {
-    endian::wide16(b[at]) + endian::wide16(b[at + 1]) * 256
+    u16::from(b[at]) + u16::from(b[at + 1]) * 256
 }
 
 // As one sum: the loads of two halves are not joined where numbers of 64 bits are compared.
@@ -25,8 +25,8 @@ pub fn turned32(b: &[u8], at: usize) -> u32
     requires { at + 4 ≤ length b.now }
     ensures { result ≡ lanes 4 (bytes_at b.now at) }
 {
-    endian::wide32(b[at])
-        + endian::wide32(b[at + 1]) * 256
-        + endian::wide32(b[at + 2]) * 65536
-        + endian::wide32(b[at + 3]) * 16777216
+    u32::from(b[at])
+        + u32::from(b[at + 1]) * 256
+        + u32::from(b[at + 2]) * 65536
+        + u32::from(b[at + 3]) * 16777216
 }

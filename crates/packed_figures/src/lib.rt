@@ -20,6 +20,7 @@ fn narrow(block: &[u8], order: u32, figures: &[u8]) -> Compared
     let mut unlike: u16 = 0;
     let mut under: u16 = 0;
     let mut k = 0;
+    // A `while`: it goes on by groups, and what is left after the last is looked at one by one.
     while 128 <= n - k {
         let c = packed_narrow::group_at(block, order, figures, per, k, 128);
         unlike += c.unlike;
@@ -34,6 +35,7 @@ pub fn compare(block: &[u8], order: u32, figures: &[u8]) -> Compared
     requires { (Lie order (length block.now) (length figures.now) × (length figures.now ≤ 32768)) × Single figures.now }
     ensures { (result.unlike ≡ count (unlike_at order block.now figures.now) 0 (length figures.now)) × (result.under ≡ count (under_at order block.now figures.now) 0 (length figures.now)) }
 {
+    // Not a match: the compiler then kept the tests for 4 to 6 in the loop of each::rest.
     if order == 4 {
         return packed_whole::numbers16(block, figures);
     }

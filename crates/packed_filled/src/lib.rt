@@ -32,10 +32,8 @@ fn filled_bytes(block: &[u8], order: u32) -> u16
     ensures { result ≡ count (filled_at order block.now) 0 (2 ^ (3 - order) * length block.now) }
 {
     let mut n: u16 = 0;
-    let mut b = 0;
-    while b < block.len() {
-        n += filled_in(endian::wide16(block[b]), order);
-        b += 1;
+    for x in block {
+        n += filled_in(u16::from(*x), order);
     }
     n
 }
@@ -47,13 +45,11 @@ fn filled_halves(block: &[u8]) -> u16
 {
     let mut low: u8 = 0;
     let mut high: u8 = 0;
-    let mut b = 0;
-    while b < block.len() {
-        low += packed_bytes::unlike8(block[b] % 16, 0);
-        high += packed_bytes::unlike8(block[b] / 16, 0);
-        b += 1;
+    for x in block {
+        low += packed_bytes::unlike8(*x % 16, 0);
+        high += packed_bytes::unlike8(*x / 16, 0);
     }
-    endian::wide16(low) + endian::wide16(high)
+    u16::from(low) + u16::from(high)
 }
 
 // The numbers of 8 bits that are not 0, in a sum of one byte too.
@@ -62,12 +58,10 @@ fn filled_whole(block: &[u8]) -> u16
     ensures { result ≡ count (filled_at 3 block.now) 0 (length block.now) }
 {
     let mut n: u8 = 0;
-    let mut b = 0;
-    while b < block.len() {
-        n += packed_bytes::unlike8(block[b], 0);
-        b += 1;
+    for x in block {
+        n += packed_bytes::unlike8(*x, 0);
     }
-    endian::wide16(n)
+    u16::from(n)
 }
 
 // The same, with an order that the compiler knows in each loop.
@@ -75,14 +69,10 @@ pub fn filled(block: &[u8], order: u32) -> u16
     requires { (order ≤ 3) × (length block.now ≤ 128) }
     ensures { result ≡ count (filled_at order block.now) 0 (2 ^ (3 - order) * length block.now) }
 {
-    if order == 0 {
-        return filled_bytes(block, 0);
+    match order {
+        0 => filled_bytes(block, 0),
+        1 => filled_bytes(block, 1),
+        2 => filled_halves(block),
+        _ => filled_whole(block),
     }
-    if order == 1 {
-        return filled_bytes(block, 1);
-    }
-    if order == 2 {
-        return filled_halves(block);
-    }
-    filled_whole(block)
 }

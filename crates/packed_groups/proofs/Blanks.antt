@@ -1,9 +1,8 @@
 -- Numbers whose figures are 0. Assumes nothing.
 use Prim.Native.Nat.{ℕ, ◌+◌, ◌-◌, ◌≤◌, ◌<◌}
-use native.Mathlib.Nat.{add-zero}
 use native.Mathlib.Omega.{arith}
 use mathlib.Core.Path.{◌≡◌, refl, sym, ◌∙◌}
-use mathlib.Core.Bool.{true, false}
+use mathlib.Core.Bool.{true}
 use mathlib.Core.List.{List}
 use lib.Dec.{eqb}
 use lib.ListN.{get_or, take, drop}
@@ -14,11 +13,7 @@ use Rattle.choice.proofs.Searches.{count_same}
 use Rattle.choice.proofs.Found.{count-false}
 use Rattle.packed.specs.Packed.{packed, zero_at, unlike_at, under_at}
 use Rattle.packed_filled.specs.Filled.{filled_at}
-use Rattle.packed_narrow.proofs.Blanks.{zero_figure, first-filled}
-
--- where the first figure of a part is not 0
-pub part_filled : (F : List ℕ) (k : ℕ) → (get_or F k 0 ≡ 0 → ⊥) → all (λ b. eqb b 0) (take 128 (drop k F)) ≡ false
-part_filled F k h = first-filled (take 128 (drop k F)) (rw (get_or-take 128 (drop k F) 0 0 (omega arith), get_or-drop k F 0 0, add-zero) h)
+use Rattle.packed_narrow.proofs.Blanks.{zero_figure}
 
 -- where all of them are
 module _ (o : ℕ) (l F : List ℕ) (k d u : ℕ) (e : all (λ b. eqb b 0) (take d (drop k F)) ≡ true) where

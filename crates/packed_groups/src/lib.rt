@@ -2,36 +2,23 @@
 // are told without widening the figures.
 #![tactic(auto)]
 
-ghost use Rattle.std.specs.Prelude.{◌≡◌, ◌+◌, ◌≤◌, eqb, length, take, drop};
-ghost use Rattle.choice.specs.Pick.{all, count};
+ghost use Rattle.std.specs.Prelude.{◌≡◌, ◌+◌, ◌≤◌, length};
+ghost use Rattle.choice.specs.Pick.{count};
 ghost use Rattle.packed.specs.Packed.{unlike_at, under_at};
 ghost use Rattle.packed.specs.Figures.{Ready, Tallied};
 
 use packed::Compared;
-
-// Whether 128 figures from figure k on are all 0. In a full image the first one tells that they are not.
-fn blank_at(figures: &[u8], k: usize) -> bool
-    requires { k + 128 ≤ length figures.now }
-    ensures { result ≡ all (λ b. eqb b 0) (take 128 (drop k figures.now)) }
-{
-    if figures[k] != 0 {
-        return false;
-    }
-    blank::all_zeros(&figures[k..k + 128])
-}
 
 // A group of d numbers from number k on. A whole one has a length that the compiler knows.
 fn group32(block: &[u8], figures: &[u8], k: usize, d: usize) -> Compared
     requires { Ready 5 block.now figures.now × (k + d ≤ length figures.now) }
     ensures { (result.unlike ≡ count (unlike_at 5 block.now figures.now) k d) × (result.under ≡ count (under_at 5 block.now figures.now) k d) }
 {
-    if d == 128 {
-        if blank_at(figures, k) {
-            return Compared {
-                unlike: packed_words::filled32(block, k, 128),
-                under: 0,
-            };
-        }
+    if d == 128 && packed_narrow::all_blank(&figures[k..k + 128]) {
+        return Compared {
+            unlike: packed_words::filled32(block, k, 128),
+            under: 0,
+        };
     }
     packed_words::spread32(block, figures, k, d)
 }
@@ -45,8 +32,9 @@ pub fn numbers32(block: &[u8], figures: &[u8]) -> Compared
     let mut unlike: u16 = 0;
     let mut under: u16 = 0;
     let mut k = 0;
+    // A `while`: the last group may be short.
     while k < m {
-        let d = power::lesser(128, m - k);
+        let d = (m - k).min(128);
         let c = group32(block, figures, k, d);
         unlike += c.unlike;
         under += c.under;

@@ -3,11 +3,11 @@ use Prim.Native.Nat.{ℕ, zero, suc}
 use native.Mathlib.Nat.{zero-add}
 use native.Mathlib.Omega.{arith}
 use mathlib.Core.Path.{◌≡◌, refl, sym, ◌∙◌}
-use mathlib.Core.Bool.{true, false}
+use mathlib.Core.Bool.{true}
 use mathlib.Core.List.{List, [], ◌∷◌}
 use lib.Dec.{eqb}
 use lib.ListN.{length, get_or}
-use borrow.Author.Tests.{ne_eqb, eqb-true, le-ltb}
+use borrow.Author.Tests.{eqb-true, le-ltb}
 use Rattle.choice.specs.Pick.{all, count}
 use Rattle.choice.proofs.Tests.{and-true}
 use Rattle.choice.proofs.Searches.{count_same}
@@ -21,11 +21,6 @@ pub zero_figure : (F : List ℕ) → all (λ b. eqb b 0) F ≡ true → (i : ℕ
 zero_figure [] e i = refl
 zero_figure (x ∷ F) e zero = eqb-true x 0 (and-true (eqb x 0) _ e).0
 zero_figure (x ∷ F) e (suc i) = zero_figure F (and-true (eqb x 0) _ e).1 i
-
--- the first one is not
-pub first-filled : (F : List ℕ) → (get_or F 0 0 ≡ 0 → ⊥) → all (λ b. eqb b 0) F ≡ false
-first-filled [] h = absurd (h refl)
-first-filled (x ∷ F) h = rw (ne_eqb x 0 h)
 
 pub blank_counted : (o : ℕ) (l F : List ℕ) (u : ℕ) → all (λ b. eqb b 0) F ≡ true → u ≡ count (filled_at o l) 0 (length F) → Tallied o l F u 0
 unfolding unlike_at under_at filled_at zero_at

@@ -13,26 +13,20 @@ fn spread(block: &[u8], order: u32, figures: &[u8]) -> Compared
     requires { (order ≤ 3) × Grouped (2 ^ (3 - order)) block.now figures.now }
     ensures { Tallied order block.now figures.now result.unlike result.under }
 {
-    if order == 0 {
-        return packed_lanes::bits::group1(block, figures);
+    match order {
+        0 => packed_lanes::group::<u64>(block, figures),
+        1 => packed_lanes::group::<u32>(block, figures),
+        2 => packed_lanes::group::<u16>(block, figures),
+        _ => packed_bytes::group8(block, figures),
     }
-    if order == 1 {
-        return packed_lanes::quarters::group2(block, figures);
-    }
-    if order == 2 {
-        return packed_lanes::halves::group4(block, figures);
-    }
-    packed_bytes::group8(block, figures)
 }
 
 // Whether figures are all 0. In a full image the first one tells that they are not.
-fn all_blank(figures: &[u8]) -> bool
+pub fn all_blank(figures: &[u8]) -> bool
     ensures { result ≡ all (λ b. eqb b 0) figures.now }
 {
-    if 0 < figures.len() {
-        if figures[0] != 0 {
-            return false;
-        }
+    if figures.first().is_some_and(|x| *x != 0) {
+        return false;
     }
     blank::all_zeros(figures)
 }

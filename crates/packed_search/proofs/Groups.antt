@@ -2,13 +2,13 @@
 use Prim.Native.Nat.{ℕ, ◌+◌, ◌-◌, ◌*◌, ◌/◌, ◌%◌, ◌^◌, ◌≤◌}
 use native.Mathlib.Nat.{mul-le-mul_left, zero-add}
 use native.Mathlib.Omega.{arith}
-use mathlib.Core.Path.{◌≡◌, refl, sym, ap, ◌∙◌}
+use mathlib.Core.Path.{◌≡◌, refl, ◌∙◌}
 use mathlib.Core.Bool.{Bool, false}
 use mathlib.Core.List.{List}
 use borrow.Author.Tests.{ltb-false}
 use lib.Dec.{ltb}
 use lib.ListN.{length, take, drop}
-use lib.Pow.{pow-add}
+use Rattle.packed_zeros.proofs.Filled.{group-fill}
 use Rattle.choice.specs.Pick.{first}
 use Rattle.choice.proofs.Runs.{Agree, first_shift, first_miss}
 use Rattle.power.proofs.Laws.{same_test}
@@ -18,12 +18,6 @@ use Rattle.packed.specs.Packed.{packed, zero_at, Lie}
 -- a part of a block's numbers
 pub lie_fewer : {o n m : ℕ} → Lie o n m → (j : ℕ) → j ≤ m → Lie o n j
 lie_fewer {o} {n} {m} l j h = record { few = l.few; short = l.short; fits = omega (arith, l.fits, mul-le-mul_left (2 ^ o) h) }
-
--- the numbers that fill 2 ^ e bytes
-group-fill : (o e : ℕ) → o ≤ e + 3 → 2 ^ o * 2 ^ (e + 3 - o) ≡ 8 * 2 ^ e
-group-fill o e h =
-    let s : o + (e + 3 - o) ≡ 3 + e = omega arith in
-    sym (pow-add 2 o (e + 3 - o)) ∙ ap (λ (x : ℕ). 2 ^ x) s ∙ pow-add 2 3 e
 
 -- those from number k on, a byte's first, and the bytes lent as a part
 module _ (o e : ℕ) (wide : o ≤ e + 3) (T : List ℕ) (k w : ℕ) (is : w ≡ 2 ^ o) (whole : 2 ^ o * k % 8 ≡ 0) (lie : Lie o (length T) (k + 2 ^ (e + 3 - o))) where

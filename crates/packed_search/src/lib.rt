@@ -12,32 +12,40 @@ fn lowest_each(block: &[u8], order: u32, j: usize, end: usize) -> usize
     ensures { result ≡ first (zero_at order block.now) j (end - j) }
 {
     let width = power::power(order) as usize;
-    let mut k = j;
-    while k < end {
+    for k in j..end {
         if widths::load(block, order, width * k) == 0 {
             return k;
         }
-        k += 1;
     }
-    k
+    end
 }
 
-// Whether one of the numbers that fill 32 bytes from number k on, a byte's first, is 0.
-fn zero_near(block: &[u8], order: u32, k: usize) -> bool
-    requires { Lie order (length block.now) (k + 2 ^ (8 - order)) × (2 ^ order * k % 8 ≡ 0) }
-    ensures { result ≡ ltb (first (zero_at order block.now) k (2 ^ (8 - order))) (k + 2 ^ (8 - order)) }
+// Whether one of the numbers that fill 2 to the power E bytes from number k on, a byte's first, is 0.
+fn zero_near<const E: u32>(block: &[u8], order: u32, k: usize) -> bool
+    requires { (Lie order (length block.now) (k + 2 ^ (E + 3 - order)) × (2 ^ order * k % 8 ≡ 0)) × ((3 ≤ E) × (E ≤ 9)) }
+    ensures { result ≡ ltb (first (zero_at order block.now) k (2 ^ (E + 3 - order))) (k + 2 ^ (E + 3 - order)) }
 {
     let at = power::power(order) as usize * k / 8;
-    packed_zeros::zero_in_32(&block[at..at + 32], order)
+    let n = power::power(E) as usize;
+    packed_zeros::zero_in::<E>(&block[at..at + n], order)
 }
 
-// The same for 512 bytes.
-fn zero_far(block: &[u8], order: u32, k: usize) -> bool
-    requires { Lie order (length block.now) (k + 2 ^ (12 - order)) × (2 ^ order * k % 8 ≡ 0) }
-    ensures { result ≡ ltb (first (zero_at order block.now) k (2 ^ (12 - order))) (k + 2 ^ (12 - order)) }
+// Passes over groups of 2 to the power E bytes in which no number is 0, from a byte's first number on; where it stops: at a group that has one, or where
+// less than a group is left.
+fn pass<const E: u32>(block: &[u8], order: u32, j: usize, end: usize) -> usize
+    requires { ((Lie order (length block.now) end × (j ≤ end)) × (2 ^ order * j % 8 ≡ 0)) × ((3 ≤ E) × (E ≤ 9)) }
+    ensures { (result ≤ end) × (first (zero_at order block.now) j (end - j) ≡ first (zero_at order block.now) result (end - result)) }
 {
-    let from = power::power(order) as usize * k / 8;
-    packed_zeros::zero_in_512(&block[from..from + 512], order)
+    let step = power::power(E + 3 - order) as usize;
+    let mut k = j;
+    // A `while`: where it stops is where the search goes on.
+    while step <= end - k {
+        if zero_near::<E>(block, order, k) {
+            return k;
+        }
+        k += step;
+    }
+    k
 }
 
 // The lowest number from a byte's first on that is 0: 32 bytes are passed over at a time where none is.
@@ -45,14 +53,7 @@ fn lowest_near(block: &[u8], order: u32, j: usize, end: usize) -> usize
     requires { (Lie order (length block.now) end × (j ≤ end)) × (2 ^ order * j % 8 ≡ 0) }
     ensures { result ≡ first (zero_at order block.now) j (end - j) }
 {
-    let step = power::power(8 - order) as usize;
-    let mut k = j;
-    while step <= end - k {
-        if zero_near(block, order, k) {
-            return lowest_each(block, order, k, end);
-        }
-        k += step;
-    }
+    let k = pass::<5>(block, order, j, end);
     lowest_each(block, order, k, end)
 }
 
@@ -76,29 +77,13 @@ pub fn near_at(image: &[u8], at: usize, c: usize, order: u32, j: usize, end: usi
     lowest_any(&image[at..at + c], order, j, end)
 }
 
-// Passes over groups of 512 bytes in which no number is 0; where it stops: at a group that has one, or where less than a group is left.
-fn far_end(block: &[u8], order: u32, j: usize, end: usize) -> usize
-    requires { (Lie order (length block.now) end × (j ≤ end)) × (2 ^ order * j % 8 ≡ 0) }
-    ensures { (result ≤ end) × (first (zero_at order block.now) j (end - j) ≡ first (zero_at order block.now) result (end - result)) }
-{
-    let step = power::power(12 - order) as usize;
-    let mut k = j;
-    while step <= end - k {
-        if zero_far(block, order, k) {
-            return k;
-        }
-        k += step;
-    }
-    k
-}
-
-// The same, with a loop of its own for 16 bits, the usual width.
+// Passes over groups of 512 bytes, with a loop of its own for 16 bits, the usual width.
 pub fn far_any(block: &[u8], order: u32, j: usize, end: usize) -> usize
     requires { (Lie order (length block.now) end × (j ≤ end)) × (2 ^ order * j % 8 ≡ 0) }
     ensures { (result ≤ end) × (first (zero_at order block.now) j (end - j) ≡ first (zero_at order block.now) result (end - result)) }
 {
     if order == 4 {
-        return far_end(block, 4, j, end);
+        return pass::<9>(block, 4, j, end);
     }
-    far_end(block, order, j, end)
+    pass::<9>(block, order, j, end)
 }

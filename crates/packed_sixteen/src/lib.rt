@@ -10,10 +10,7 @@ use packed::Compared;
 fn unlike16(t: u16, f: u16) -> u16
     ensures { (result ≡ (if eqb t f then 0 else 1)) × (result ≤ 1) }
 {
-    if t == f {
-        return 0;
-    }
-    1
+    u16::from(t != f)
 }
 
 // Turned bytes turned back: a rotation, which many numbers undergo at once.
@@ -27,20 +24,7 @@ fn back(t: u16) -> u16
 fn under16(x: u16, figure: u16) -> u16
     ensures { (result ≡ (if ltb x figure then 1 else 0)) × (result ≤ 1) }
 {
-    if x < figure {
-        return 1;
-    }
-    0
-}
-
-// Whether turned bytes are alike, and all before them were.
-fn also(t: u16, f: u16, same: bool) -> bool
-    ensures { result ≡ true → (same ≡ true) × (t ≡ f) }
-{
-    if t == f {
-        return same;
-    }
-    false
+    u16::from(x < figure)
 }
 
 // Whether all numbers are the figures.
@@ -50,12 +34,10 @@ fn alike16(block: &[u8], figures: &[u8]) -> bool
 {
     let m = figures.len() / 2;
     let mut same = true;
-    let mut j = 0;
-    while j < m {
+    for j in 0..m {
         let t = packed::turned16(block, 2 * j);
         let f = packed::turned16(figures, 2 * j);
-        same = also(t, f, same);
-        j += 1;
+        same &= t == f;
     }
     same
 }
@@ -72,13 +54,7 @@ pub(crate) struct Pass {
 fn zero16(t: u16, f: u16) -> u16
     ensures { (result ≡ (if eqb t 0 && not (eqb f 0) then 1 else 0)) × (result ≤ 1) }
 {
-    if t != 0 {
-        return 0;
-    }
-    if f == 0 {
-        return 0;
-    }
-    1
+    u16::from((t == 0) & (f != 0))
 }
 
 // All numbers. Where no figure is above 1, a number is below its figure where it is zero and the figure is not.
@@ -90,14 +66,12 @@ fn pass16(block: &[u8], figures: &[u8]) -> Pass
     let mut unlike: u16 = 0;
     let mut zeros: u16 = 0;
     let mut seen: u16 = 0;
-    let mut j = 0;
-    while j < m {
+    for j in 0..m {
         let t = packed::turned16(block, 2 * j);
         let f = packed::turned16(figures, 2 * j);
         unlike += unlike16(t, f);
         zeros += zero16(t, f);
-        seen = seen | f;
-        j += 1;
+        seen |= f;
     }
     Pass {
         unlike,
@@ -114,13 +88,11 @@ fn each16(block: &[u8], figures: &[u8]) -> Compared
     let m = figures.len() / 2;
     let mut unlike: u16 = 0;
     let mut under: u16 = 0;
-    let mut j = 0;
-    while j < m {
+    for j in 0..m {
         let t = packed::turned16(block, 2 * j);
         let f = packed::turned16(figures, 2 * j);
         unlike += unlike16(t, f);
         under += under16(back(t), back(f));
-        j += 1;
     }
     Compared { unlike, under }
 }
@@ -137,13 +109,7 @@ pub fn numbers16(block: &[u8], figures: &[u8]) -> Compared
         };
     }
     let p = pass16(block, figures);
-    if p.seen == 0 {
-        return Compared {
-            unlike: p.unlike,
-            under: p.zeros,
-        };
-    }
-    if p.seen == 256 {
+    if p.seen == 0 || p.seen == 256 {
         return Compared {
             unlike: p.unlike,
             under: p.zeros,

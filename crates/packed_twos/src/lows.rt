@@ -10,15 +10,10 @@ pub fn narrowed(figures: &[u8], bytes: &mut [u8]) -> bool
 {
     let m = figures.len() / 2;
     let mut seen: u16 = 0;
-    let mut j = 0;
-    while j < m {
+    for j in 0..m {
         let t = packed::turned16(figures, 2 * j);
         bytes[j] = (t / 256) as u8;
-        seen = seen | t;
-        j += 1;
+        seen |= t;
     }
-    if seen == 0 {
-        return true;
-    }
-    seen == 256
+    seen == 0 || seen == 256
 }

@@ -8,17 +8,11 @@ ghost use Rattle.packed_twos.specs.Twos.{twos, many, Ready, Tallied};
 
 use packed::Compared;
 
-// The arrays for the figures' low bytes. They are functions so that their length is all that a proof knows of them.
-fn short_room() -> [u8; 512]
-    ensures { 512 ≡ length result }
+// An array for the figures' low bytes. It is a function so that its length is all that a proof knows of it.
+fn room<const N: usize>() -> [u8; N]
+    ensures { N ≡ length result }
 {
-    [0; 512]
-}
-
-fn long_room() -> [u8; 4096]
-    ensures { 4096 ≡ length result }
-{
-    [0; 4096]
+    [0; N]
 }
 
 // Where no figure is above 1 the low bytes are the figures; else one by one.
@@ -33,20 +27,12 @@ fn by_bytes(block: &[u8], order: u32, figures: &[u8], bytes: &mut [u8]) -> Compa
     packed_twos::each::numbers(block, order, figures)
 }
 
-// By way of a short array where it is enough: clearing a long one takes as long as the counts of a small cluster.
-fn short(block: &[u8], order: u32, figures: &[u8]) -> Compared
-    requires { Ready order block.now figures.now × (many figures.now ≤ 512) }
+// By way of an array for N figures.
+fn within<const N: usize>(block: &[u8], order: u32, figures: &[u8]) -> Compared
+    requires { (Ready order block.now figures.now × (many figures.now ≤ N)) × (N ≤ 4096) }
     ensures { Tallied order block.now figures.now result.unlike result.under }
 {
-    let mut bytes = short_room();
-    by_bytes(block, order, figures, &mut bytes)
-}
-
-fn long(block: &[u8], order: u32, figures: &[u8]) -> Compared
-    requires { Ready order block.now figures.now }
-    ensures { Tallied order block.now figures.now result.unlike result.under }
-{
-    let mut bytes = long_room();
+    let mut bytes = room::<N>();
     by_bytes(block, order, figures, &mut bytes)
 }
 
@@ -58,8 +44,9 @@ pub fn compare(block: &[u8], order: u32, figures: &[u8]) -> Compared
     if order == 4 {
         return packed_sixteen::numbers16(block, figures);
     }
+    // Clearing a long array takes as long as the counts of a small cluster.
     if figures.len() <= 1024 {
-        return short(block, order, figures);
+        return within::<512>(block, order, figures);
     }
-    long(block, order, figures)
+    within::<4096>(block, order, figures)
 }

@@ -1,6 +1,6 @@
 -- Numbers of a byte or less against 0, a byte at a time. Assumes nothing.
 use Rattle.std.specs.Prelude.{if◌then◌else◌}
-use Prim.Native.Nat.{ℕ, ◌+◌, ◌*◌, ◌/◌, ◌%◌, ◌≤◌, ◌<◌}
+use Prim.Native.Nat.{ℕ, ◌+◌, ◌*◌, ◌/◌, ◌%◌, ◌≤◌, ◌<◌, min}
 use native.Mathlib.Nat.{zero-add, mul-add, mul-one}
 use native.Mathlib.Omega.{arith}
 use mathlib.Core.Path.{◌≡◌, refl, sym, ap, ap₂, ◌∙◌}
@@ -8,8 +8,11 @@ use mathlib.Core.Bool.{Bool, true, false, ◌||◌, not}
 use mathlib.Core.List.{List}
 use lib.Bits.{bit_or, bit_and}
 use lib.Dec.{eqb, ltb}
-use lib.ListN.{get_or}
-use borrow.Author.Tests.{lt-ltb, le-ltb, ltb-true, ltb-false, eq-eqb, ne_eqb, eqb-true}
+use lib.ListN.{get_or, take}
+use lib.Seq.{get_or-take}
+use Rattle.std.proofs.Math.Bool.{or_comm}
+use Rattle.packed.proofs.Laws.{eqb_same}
+use borrow.Author.Tests.{lt-ltb, le-ltb, ltb-true, ltb-false, eq-eqb, eqb-true, eqb-false}
 use Rattle.choice.specs.Pick.{first}
 use Rattle.choice.proofs.Runs.{first_split, first_shift}
 use Rattle.widths.specs.Width.{field}
@@ -71,28 +74,31 @@ byte_next o h l b =
     let e : per o * (b + 1) ≡ per o * b + per o = mul-add (per o) b 1 ∙ ap (λ (x : ℕ). per o * b + x) (mul-one (per o)) in
     rw (e, some_more (zero_at o l) (per o * b) (per o)) (ap (λ (t : Bool). t || some (zero_at o l) (per o * b)) (some_shift (zero_at o l) (zero_in o (get_or l b 0)) (per o * b) (per o) (in_byte o h l b)))
 
+-- the same, as a loop over the first n bytes finds it
+pub byte_turn : (o : ℕ) → o ≤ 3 → (l : List ℕ) (n b : ℕ) → b < n → {t u : Bool} → t ≡ some (zero_at o l) (per o * b) → u ≡ holds o (get_or (take n l) b 0)
+    → (t || u) ≡ some (zero_at o l) (per o * (b + 1))
+byte_turn o h l n b k {t} {u} e f =
+    or_comm t u ∙ ap₂ ◌||◌ (f ∙ ap (holds o) (get_or-take n l b 0 k)) e ∙ sym (byte_next o h l b)
+
 -- ---- numbers of 4 bits by the least
 pub holds-half : (x : ℕ) → x < 256 → (eqb (x % 16) 0 || ltb x 16) ≡ holds 2 x
 unfolding holds parts field
 holds-half = each_test (λ x. eqb (x % 16) 0 || ltb x 16) (holds 2) refl
 
-least_zero : (a b : ℕ) → eqb (if ltb a b then a else b) 0 ≡ (eqb a 0 || eqb b 0)
-least_zero a b = go (ltb a b) refl (eqb a 0) refl
+least_zero : (a b : ℕ) → eqb (min a b) 0 ≡ (eqb a 0 || eqb b 0)
+least_zero a b = go (eqb a 0) refl
   where
-    go : (t : Bool) → ltb a b ≡ t → (u : Bool) → eqb a 0 ≡ u → eqb (if t then a else b) 0 ≡ (u || eqb b 0)
-    go true e true f = f
-    go true e false f = let h : a < b = ltb-true a b e in f ∙ sym (ne_eqb b 0 (λ z. omega arith))
-    go false e true f = let h : b ≤ a = ltb-false a b e in let z : a ≡ 0 = eqb-true a 0 f in eq-eqb b 0 (omega arith)
-    go false e false f = refl
+    go : (t : Bool) → eqb a 0 ≡ t → eqb (min a b) 0 ≡ (t || eqb b 0)
+    go true e = let z : a ≡ 0 = eqb-true a 0 e in eq-eqb (min a b) 0 (omega arith)
+    go false e = let h : 0 < a = omega (arith, eqb-false a 0 e) in eqb_same (min a b) 0 b 0 (λ z. omega arith) (λ z. omega arith)
 
-least-below : (k a b : ℕ) → ltb (if ltb a b then a else b) k ≡ (ltb a k || ltb b k)
-least-below k a b = go (ltb a b) refl (ltb a k) refl
+least-below : (k a b : ℕ) → ltb (min a b) k ≡ (ltb a k || ltb b k)
+least-below k a b = go (ltb a k) refl (ltb b k) refl
   where
-    go : (t : Bool) → ltb a b ≡ t → (u : Bool) → ltb a k ≡ u → ltb (if t then a else b) k ≡ (u || ltb b k)
-    go true e true f = f
-    go true e false f = let h : a < b = ltb-true a b e in let g : k ≤ a = ltb-false a k f in f ∙ sym (le-ltb b k (omega arith))
-    go false e true f = let h : b ≤ a = ltb-false a b e in let g : a < k = ltb-true a k f in lt-ltb b k (omega arith)
-    go false e false f = refl
+    go : (t : Bool) → ltb a k ≡ t → (u : Bool) → ltb b k ≡ u → ltb (min a b) k ≡ (t || u)
+    go true e u f = let h : a < k = ltb-true a k e in lt-ltb (min a b) k (omega arith)
+    go false e true f = let h : b < k = ltb-true b k f in lt-ltb (min a b) k (omega arith)
+    go false e false f = let g : k ≤ a = ltb-false a k e in let h : k ≤ b = ltb-false b k f in le-ltb (min a b) k (omega arith)
 
 -- four tests, two of a byte and two of those before it
 four : (p q l m : Bool) → ((p || l) || (q || m)) ≡ ((p || q) || (l || m))
@@ -101,11 +107,14 @@ four false true true m = refl
 four false true false m = refl
 four false false l m = refl
 
-pub half-next : (l : List ℕ) (b low least : ℕ) → get_or l b 0 < 256 → (eqb low 0 || ltb least 16) ≡ some (zero_at 2 l) (per 2 * b)
-    → (eqb (if ltb (get_or l b 0 % 16) low then get_or l b 0 % 16 else low) 0 || ltb (if ltb (get_or l b 0) least then get_or l b 0 else least) 16) ≡ some (zero_at 2 l) (per 2 * (b + 1))
-half-next l b low least h e =
+pub half-next : (l : List ℕ) (n b low least : ℕ) → b < n → get_or l b 0 < 256 → (eqb low 0 || ltb least 16) ≡ some (zero_at 2 l) (per 2 * b)
+    → (eqb (min low (get_or (take n l) b 0 % 16)) 0 || ltb (min least (get_or (take n l) b 0)) 16) ≡ some (zero_at 2 l) (per 2 * (b + 1))
+half-next l n b low least k h e =
     let x = get_or l b 0 in
-    ap₂ ◌||◌ (least_zero (x % 16) low) (least-below 16 x least)
-    ∙ four (eqb (x % 16) 0) (ltb x 16) (eqb low 0) (ltb least 16)
-    ∙ ap₂ ◌||◌ (holds-half x h) e
+    rw (get_or-take n l b 0 k) (
+    ap₂ ◌||◌ (least_zero low (x % 16)) (least-below 16 least x)
+    ∙ four (eqb low 0) (ltb least 16) (eqb (x % 16) 0) (ltb x 16)
+    ∙ ap₂ ◌||◌ e (holds-half x h)
+    ∙ or_comm (some (zero_at 2 l) (per 2 * b)) (holds 2 x)
     ∙ sym (byte_next 2 (omega arith) l b)
+    )

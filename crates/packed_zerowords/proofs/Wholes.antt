@@ -4,6 +4,7 @@ use native.Mathlib.Nat.{zero-add, zero-mul, mul-le-mul_left}
 use native.Mathlib.Omega.{arith}
 use mathlib.Core.Path.{◌≡◌, sym, ap₂, ◌∙◌}
 use mathlib.Core.Bool.{Bool, ◌||◌}
+use Rattle.std.proofs.Math.Bool.{or_comm}
 use mathlib.Core.List.{List}
 use lib.Bits.{bit_or, or_add_and, and_le_l, and_le_r}
 use lib.Dec.{eqb}
@@ -16,8 +17,8 @@ use Rattle.packed.proofs.Laws.{eqb_same, found-next}
 use Rattle.packed.proofs.Turned.{same16, same32, same64, whole16, whole32, whole64}
 
 -- one number more, as a loop finds it
-pub some_next : (p : ℕ → Bool) (i : ℕ) {u t r : Bool} → u ≡ p i → t ≡ some p i → r ≡ (u || t) → r ≡ some p (i + 1)
-some_next p i e f g = g ∙ ap₂ ◌||◌ e f ∙ sym (rw (zero-add, zero-add) at (found-next p 0 i))
+pub some_next : (p : ℕ → Bool) (i : ℕ) {t u : Bool} → t ≡ some p i → u ≡ p i → (t || u) ≡ some p (i + 1)
+some_next p i {t} {u} e f = or_comm t u ∙ ap₂ ◌||◌ f e ∙ sym (rw (zero-add, zero-add) at (found-next p 0 i))
 
 -- two halves of a number
 or-zero : (a b m : ℕ) → 1 ≤ m → eqb (bit_or a b) 0 ≡ eqb (a + b * m) 0

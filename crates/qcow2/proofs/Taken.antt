@@ -1,10 +1,10 @@
 -- What every call answers and leaves where the image is accepted. Assumes nothing.
+use Rattle.std.specs.Prelude.{Ok}
 use Prim.Native.Nat.{ℕ}
 use mathlib.Core.Path.{◌≡◌, refl}
 use mathlib.Core.List.{List}
 use Rattle.units.specs.Plan.{Plan}
 use Rattle.qcow2_spec.specs.declared.Geometry.{Geometry}
-use Rattle.qcow2_spec.specs.declared.Judged.TheVariants.{Accepted}
 use Rattle.qcow2_spec.specs.Header.{some_lent, judge}
 use Rattle.qcow2_spec.specs.Opened.{opened, Active}
 use Rattle.qcow2_spec.specs.Guest.{translated, translate, range_number, range_into, read_number, read_into, found_part, in_place}
@@ -14,7 +14,7 @@ use Rattle.qcow2_spec.specs.References.{scratch_counted, scratch_left}
 use Rattle.qcow2_spec.specs.Check.{checked, check, repair_list, repair_plan}
 use Rattle.qcow2_spec.proofs.Open.{accepted-is}
 
-module _ (backing s : List ℕ) (g : Geometry) (e : opened (some_lent backing) s ≡ Accepted g) where
+module _ (backing s : List ℕ) (g : Geometry) (e : opened (some_lent backing) s ≡ Ok g) where
   pub active : Active g s
   active = (accepted-is (some_lent backing) s g e).1
 

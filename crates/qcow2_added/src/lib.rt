@@ -23,7 +23,7 @@ use qcow2_spec::Geometry;
 fn past(rows: &[u64], k: usize) -> usize
     ensures { result ≡ 4 * min (length rows.now / 4) k }
 {
-    4 * power::lesser(rows.len() / 4, k)
+    4 * (rows.len() / 4).min(k)
 }
 
 // The rows of a write in front of the numbers that are lent; last: the phase of its last entry.

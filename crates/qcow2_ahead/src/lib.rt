@@ -8,28 +8,16 @@ ghost use Rattle.qcow2_portions.specs.Rows.{ahead};
 
 use qcow2_spec::Geometry;
 
-// What n entries have from index i on.
-fn rest(n: usize, i: usize) -> usize
-    ensures { result ≡ n - i }
-{
-    if n <= i {
-        return 0;
-    }
-    n - i
-}
-
 // The entries of snapshot k's L1 table and of the later ones; its own entry stands at p. Each size is read where the entry before ends.
 fn count_from(image: &[u8], g: Geometry, k: usize, p: usize) -> usize
     requires { (Opened g image.now × (k ≤ shots image.now)) × (p ≡ snapshot_at image.now k) }
     ensures { (result ≡ length (ahead image.now (suc k) 0)) × (result ≤ most_l1 * most_snapshots) }
 {
     let mut n = 0;
-    let mut j = k;
     let mut at = p;
-    while j < g.snapshots {
+    for j in k..g.snapshots {
         n += qcow2_snapshots::size_at(image, g, j, at);
         at = qcow2_snapshots::next_place(image, g, j, at);
-        j += 1;
     }
     n
 }
@@ -40,7 +28,7 @@ fn count_shots(image: &[u8], g: Geometry, k: usize, i: usize) -> usize
     ensures { result ≡ length (ahead image.now (suc k) i) }
 {
     let p = qcow2_snapshots::place_of(image, g, k);
-    let own = rest(qcow2_snapshots::size_at(image, g, k, p), i);
+    let own = qcow2_snapshots::size_at(image, g, k, p).saturating_sub(i);
     own + count_from(image, g, k + 1, qcow2_snapshots::next_place(image, g, k, p))
 }
 
@@ -55,5 +43,5 @@ pub fn count_ahead(image: &[u8], g: Geometry, t: usize, i: usize) -> usize
     if t > 0 {
         return count_shots(image, g, t - 1, i);
     }
-    rest(g.l1size, i) + count_from(image, g, 0, g.snapshotsat)
+    g.l1size.saturating_sub(i) + count_from(image, g, 0, g.snapshotsat)
 }

@@ -1,5 +1,6 @@
 -- Entries of an L2 table that go on alike.
 -- Assumes nothing.
+use Rattle.std.specs.Prelude.{Ok, Result}
 use Prim.Native.Nat.{ℕ, ◌+◌, ◌-◌, ◌*◌, ◌^◌, ◌≤◌, ◌<◌}
 use native.Mathlib.Nat.{add-mul, one-mul}
 use native.Mathlib.Omega.{arith}
@@ -22,7 +23,7 @@ use Rattle.qcow2_found.proofs.Marked.{found_plain, found-other, found-empty, fou
 use Rattle.qcow2_alike.specs.Alike.{entry_goes, entries_end}
 
 -- ---- the search for the end
-module _ (v C n : ℕ) (l : List ℕ) (f : Found) (from : ℕ) where
+module _ (v C n : ℕ) (l : List ℕ) (f : Result Found ℕ) (from : ℕ) where
   abbrev stops : ℕ → Bool
   stops k = not (entry_goes v C n l f from k)
 
@@ -61,7 +62,7 @@ module _ (v C n : ℕ) (l : List ℕ) (f : Found) (from : ℕ) where
     end_off b = not-true _ (first_passes stops from (end - from) (omega arith))
 
 -- ---- whether an entry goes on
-same_not : (a b : Found) → (a ≡ b → ⊥) → same_found a b ≡ false
+same_not : (a b : Result Found ℕ) → (a ≡ b → ⊥) → same_found a b ≡ false
 same_not a b n = go (same_found a b) refl
   where
     go : (t : Bool) → same_found a b ≡ t → t ≡ false
@@ -71,48 +72,48 @@ same_not a b n = go (same_found a b) refl
 module _ (v b n : ℕ) (l : List ℕ) (from k e : ℕ) (q : e ≡ be64 l (8 * k)) where
   -- from host offset h
   module _ (h : ℕ) where
-    pub host_not : plain (2 ^ b) n e ≡ false → entry_goes v (2 ^ b) n l (Host h) from k ≡ false
+    pub host_not : plain (2 ^ b) n e ≡ false → entry_goes v (2 ^ b) n l (Ok (Host h)) from k ≡ false
     unfolding entry_goes
     host_not p = rw (← q) (same_not _ _ (found-other v (2 ^ b) n e 0 _ p))
 
     module _ (low : 9 ≤ b) (most : n ≤ most_length) where
-      pub host_goes : plain (2 ^ b) n e ≡ true → bare e ≡ h + (k - from) * 2 ^ b → entry_goes v (2 ^ b) n l (Host h) from k ≡ true
+      pub host_goes : plain (2 ^ b) n e ≡ true → bare e ≡ h + (k - from) * 2 ^ b → entry_goes v (2 ^ b) n l (Ok (Host h)) from k ≡ true
       unfolding entry_goes
       host_goes p d =
           let z : bare e + 0 ≡ h + (k - from) * 2 ^ b = omega arith in
           rw (← q, found_plain v b n e 0 low most p, z) (same_self _)
 
-      pub host_apart : (bare e ≡ h + (k - from) * 2 ^ b → ⊥) → entry_goes v (2 ^ b) n l (Host h) from k ≡ false
+      pub host_apart : (bare e ≡ h + (k - from) * 2 ^ b → ⊥) → entry_goes v (2 ^ b) n l (Ok (Host h)) from k ≡ false
       unfolding entry_goes
       host_apart d = rw (← q) (same_not _ _ (λ y. go (plain (2 ^ b) n e) refl y))
         where
-          go : (t : Bool) → plain (2 ^ b) n e ≡ t → entry_found v (2 ^ b) n e 0 ≡ Host (h + (k - from) * 2 ^ b) → ⊥
+          go : (t : Bool) → plain (2 ^ b) n e ≡ t → entry_found v (2 ^ b) n e 0 ≡ Ok (Host (h + (k - from) * 2 ^ b)) → ⊥
           go true p y =
-              let z : Host (bare e + 0) ≡ Host (h + (k - from) * 2 ^ b) = sym (found_plain v b n e 0 low most p) ∙ y in
+              let z : Ok (Host (bare e + 0)) ≡ Ok (Host (h + (k - from) * 2 ^ b)) = sym (found_plain v b n e 0 low most p) ∙ y in
               let w : bare e + 0 ≡ h + (k - from) * 2 ^ b = cc in
               d (omega (arith, w))
           go false p y = found-other v (2 ^ b) n e 0 _ p y
 
   -- from no allocation
-  pub empty_goes : e ≡ 0 → entry_goes v (2 ^ b) n l Absent from k ≡ true
+  pub empty_goes : e ≡ 0 → entry_goes v (2 ^ b) n l (Ok Absent) from k ≡ true
   unfolding entry_goes
-  empty_goes z = rw (← q, found-empty v (2 ^ b) n e 0 z) (same_self Absent)
+  empty_goes z = rw (← q, found-empty v (2 ^ b) n e 0 z) (same_self (Ok Absent))
 
-  pub empty-not : (e ≡ 0 → ⊥) → entry_goes v (2 ^ b) n l Absent from k ≡ false
+  pub empty-not : (e ≡ 0 → ⊥) → entry_goes v (2 ^ b) n l (Ok Absent) from k ≡ false
   unfolding entry_goes
   empty-not z = rw (← q) (same_not _ _ (found-filled v (2 ^ b) n e 0 z))
 
   -- from zeros
-  pub marked_goes : 9 ≤ b → n ≤ most_length → marked v (2 ^ b) n e ≡ true → entry_goes v (2 ^ b) n l Zeros from k ≡ true
+  pub marked_goes : 9 ≤ b → n ≤ most_length → marked v (2 ^ b) n e ≡ true → entry_goes v (2 ^ b) n l (Ok Zeros) from k ≡ true
   unfolding entry_goes
-  marked_goes low most m = rw (← q, found-marked v b n e 0 low most m) (same_self Zeros)
+  marked_goes low most m = rw (← q, found-marked v b n e 0 low most m) (same_self (Ok Zeros))
 
-  pub marked-not : marked v (2 ^ b) n e ≡ false → entry_goes v (2 ^ b) n l Zeros from k ≡ false
+  pub marked-not : marked v (2 ^ b) n e ≡ false → entry_goes v (2 ^ b) n l (Ok Zeros) from k ≡ false
   unfolding entry_goes
   marked-not m = rw (← q) (same_not _ _ (found_unmarked v (2 ^ b) n e 0 m))
 
   -- from what is alike at every byte
-  pub still_goes : (f : Found) → ((j : ℕ) → moved f j ≡ f) → same_found (entry_found v (2 ^ b) n e 0) f ≡ entry_goes v (2 ^ b) n l f from k
+  pub still_goes : (f : Result Found ℕ) → ((j : ℕ) → moved f j ≡ f) → same_found (entry_found v (2 ^ b) n e 0) f ≡ entry_goes v (2 ^ b) n l f from k
   unfolding entry_goes
   still_goes f s = rw (← q, s ((k - from) * 2 ^ b))
 

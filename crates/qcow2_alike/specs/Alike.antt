@@ -1,6 +1,6 @@
 -- Entries of an L2 table that go on alike.
 -- Assumes nothing.
-use Rattle.std.specs.Prelude.{ℕ, ◌-◌, ◌*◌, ◌^◌, ◌≤◌, Bool, not, List, length}
+use Rattle.std.specs.Prelude.{ℕ, ◌-◌, ◌*◌, ◌^◌, ◌≤◌, Bool, not, List, length, Result}
 use Rattle.choice.specs.Pick.{first}
 use Rattle.endian.specs.Big.{be64}
 use Rattle.qcow2_spec.specs.Header.{most_bits, most_length}
@@ -18,9 +18,9 @@ pub record Entries (bits n from end : ℕ) (l : List ℕ) : Type 0 where
   pub inside : 8 * end ≤ length l
 
 -- entry k goes on where f lies at the start of the guest cluster of an earlier one
-unfoldable pub entry_goes : (version C n : ℕ) → List ℕ → Found → (from k : ℕ) → Bool
+unfoldable pub entry_goes : (version C n : ℕ) → List ℕ → Result Found ℕ → (from k : ℕ) → Bool
 entry_goes version C n l f from k = same_found (entry_found version C n (be64 l (8 * k)) 0) (moved f ((k - from) * C))
 
 -- the first entry from k to an end that does not
-unfoldable pub entries_end : (version C n : ℕ) → List ℕ → Found → (from k end : ℕ) → ℕ
+unfoldable pub entries_end : (version C n : ℕ) → List ℕ → Result Found ℕ → (from k end : ℕ) → ℕ
 entries_end version C n l f from k end = first (λ j. not (entry_goes version C n l f from j)) k (end - k)

@@ -43,6 +43,17 @@ sound-is (MarkL1 i) h = absurd (true≢false (sym h))
 sound-is (MarkL2 i j) h = absurd (true≢false (sym h))
 sound-is (Refused k) h = absurd (true≢false (sym h))
 
+pub unsound : (v : Verdict) → (v ≡ Sound → ⊥) → false ≡ sound v
+unsound Sound h = absurd (h refl)
+unsound (Leaks m) h = refl
+unsound (BadL1 t i) h = refl
+unsound (BadL2 t i j) h = refl
+unsound (Shared k) h = refl
+unsound (Short k) h = refl
+unsound (MarkL1 i) h = refl
+unsound (MarkL2 i j) h = refl
+unsound (Refused k) h = refl
+
 pub sound_else : (v next : Verdict) → sound v ≡ false → or_else v next ≡ v
 sound_else Sound next h = absurd (true≢false h)
 sound_else (Leaks m) next h = refl

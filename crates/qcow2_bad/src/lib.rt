@@ -17,17 +17,7 @@ use qcow2_spec::{Geometry, Verdict};
 pub fn is_sound(v: Verdict) -> bool
     ensures { result ≡ sound v }
 {
-    match v {
-        Verdict::Sound => true,
-        Verdict::Leaks(_) => false,
-        Verdict::BadL1(_, _) => false,
-        Verdict::BadL2(_, _, _) => false,
-        Verdict::Shared(_) => false,
-        Verdict::Short(_) => false,
-        Verdict::MarkL1(_) => false,
-        Verdict::MarkL2(_, _) => false,
-        Verdict::Refused(_) => false,
-    }
+    matches!(v, Verdict::Sound)
 }
 
 // The first bad entry of L1 table t, of which the entries before i with all below them, and the first j below this one, are known to be good.
@@ -45,18 +35,15 @@ pub fn first_bad(image: &[u8], g: Geometry, root: usize, row: usize, below: usiz
     ensures { result ≡ roots_verdict image.now 0 (roots image.now) Sound }
 {
     let count = g.snapshots + 1;
-    let mut t = root;
     let mut i = row;
     let mut j = below;
-    while t < count {
+    for t in root..count {
         let v = table_bad(image, g, t, i, j);
-        if is_sound(v) {
-            t += 1;
-            i = 0;
-            j = 0;
-        } else {
+        if !is_sound(v) {
             return v;
         }
+        i = 0;
+        j = 0;
     }
     Verdict::Sound
 }

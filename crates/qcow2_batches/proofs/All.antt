@@ -12,7 +12,6 @@ use Rattle.batches.proofs.Batch.{begin}
 use Rattle.units.specs.Units.{UnitStore}
 use Rattle.units.specs.Plan.{plan_units}
 use Rattle.qcow2_spec.specs.Header.{cluster_size}
-use Rattle.qcow2_spec.specs.Store.{clearing}
 use Rattle.qcow2_spec.specs.Disk.{Request, plan_of}
 use Rattle.qcow2_spec.specs.Steps.{Extent, extents, covers}
 use Rattle.qcow2_spec.specs.Series.{Bytes, BytesOf}

@@ -1,4 +1,5 @@
 -- What the guest reads before the entries of a batch are stored, whichever of the units there are: calls are old, or their bytes in place are mixed. Assumes nothing.
+use Rattle.std.specs.Prelude.{Ok as told}
 use Prim.Native.Nat.{ℕ, ◌+◌, ◌*◌, ◌/◌, ◌%◌, ◌≤◌, ◌<◌}
 use mathlib.Core.Path.{◌≡◌, refl, sym, ◌∙◌, subst}
 use mathlib.Core.Logic.{inl, ◌≢◌}
@@ -18,7 +19,7 @@ use Rattle.batches.proofs.Unseen.{hidden_cut}
 use Rattle.units.specs.Units.{UnitStore}
 use Rattle.units.specs.Units.{apply_all as apply_all_u}
 use Rattle.units.specs.Plan.{Plan, refused, units, plan_units, stores_count}
-use Rattle.units.specs.declared.Outcome.TheVariants.{Stopped}
+use Rattle.units.specs.declared.Ended.TheVariants.{Stopped}
 use Rattle.qcow2_spec.specs.Header.{most_l1, cluster_size, disk_size, per_table, roots}
 use Rattle.qcow2_spec.specs.Disk.{Request, write, finished, SameDisk, Fed}
 use Rattle.qcow2_spec.specs.Flush.{picked}
@@ -100,20 +101,20 @@ module _ (backing start img : List ℕ) (all : List Request) (bb : Bytes backing
           ((place-run (geo u) (code u) (geo_ok u fu) (mem (cluster_size u) u) u (own backing start u k) (beneath backing u fu (x / cluster_size u)) i j (x % cluster_size u) d w.i_l w.j_e w.in_c sm
           w.some w.one w.plain).0 cs)
 
-      mixed : Fed (Stopped 0) false (disk_size start) (shown u) (finished (cluster_size start) (write x d) (shown u)) (shown v)
+      mixed : Fed (told (Stopped 0)) false (disk_size start) (shown u) (finished (cluster_size start) (write x d) (shown u)) (shown v)
       unfolding Fed
       mixed =
           let z : SameDisk (disk_size u) (seen backing u fu u) (shown u) = next_seen backing start u k u (own backing start u k) in
           rw (← k.one_size, ← k.one-C)
           (fed-same (disk_size u) (seen backing u fu u) (shown u) (finished (cluster_size u) (write x d) (seen backing u fu u)) (finished (cluster_size u) (write x d) (shown u)) (seen backing u fu v) (shown v) z
-          (finished-same (cluster_size u) (disk_size u) (write x d) (seen backing u fu u) (shown u) z) (next_seen backing start u k v part.0) (Stopped 0) false (part_rd backing u fu v x d w.in_c part.1))
+          (finished-same (cluster_size u) (disk_size u) (write x d) (seen backing u fu u) (shown u) z) (next_seen backing start u k v part.0) (told (Stopped 0)) false (part_rd backing u fu v x d w.in_c part.1))
 
       part-shots : Shots backing u fu v
       part-shots = wrote_shots backing u fu v (beneath backing u fu (x / cluster_size u)) i j (x % cluster_size u) part.1.bytes w.i_m part.1.wrote
 
     -- by the first image's header
     overwritten : Spot (geo u) (code u) → (cs : List Bool) → Prepared (geo img) (code img) (geo_ok img f0) (mem (cluster_size img) img) img (apply_all_u (picked cs a) u)
-        → At (apply_all_u (picked cs a) u) × Fed (Stopped 0) false (disk_size start) (shown u) (finished (cluster_size start) (write x d) (shown u)) (shown (apply_all_u (picked cs a) u))
+        → At (apply_all_u (picked cs a) u) × Fed (told (Stopped 0)) false (disk_size start) (shown u) (finished (cluster_size start) (write x d) (shown u)) (shown (apply_all_u (picked cs a) u))
     overwritten w cs p = (
       record {
         kept = p.fine;
@@ -167,7 +168,7 @@ module _ (backing start img : List ℕ) (all : List Request) (bb : Bytes backing
     in_place (refused n) q z cs = rw (z refl, picked_nil cs) (h, λ y l. refl)
     in_place (units us) q z cs =
         let w = overwritten x d sm a u h (moved backing start img k0 u h.kept (Spot x d sm a u h) here) cs (ready cs) in
-        (w.0, subst (λ (c : Bool). Fed (Stopped 0) c (disk_size start) (shown u) (finished (cluster_size start) (write x d) (shown u)) (shown (apply_all_u (picked cs a) u))) (sym q) w.1)
+        (w.0, subst (λ (c : Bool). Fed (told (Stopped 0)) c (disk_size start) (shown u) (finished (cluster_size start) (write x d) (shown u)) (shown (apply_all_u (picked cs a) u))) (sym q) w.1)
 
   pub early-step : (ok : GeoOk (geo img) (code img)) (r : Request) (p : Plan) (a : List UnitStore) → Early backing img all (geo img) (code img) ok r (plan_units p) a → (plan_units p ≡ [] → a ≡ [])
       → (u : List ℕ) → At u → (cs : List Bool) → Leaves r p u (apply_all_u (picked cs a) u)

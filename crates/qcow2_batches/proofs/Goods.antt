@@ -1,18 +1,18 @@
 -- The images of a batch in memory: each is sound or leaking and of the first image's shape, and the guest reads there what the calls say. Assumes nothing.
+use Rattle.std.specs.Prelude.{Result as Outcome}
 use Prim.Native.Nat.{ℕ, ◌≤◌, ◌<◌}
 use native.Mathlib.Nat.{le_refl}
 use mathlib.Core.Path.{◌≡◌, refl, sym, ap, ◌∙◌, subst}
 use mathlib.Core.List.{List, [], ◌∷◌, ◌++◌}
 use lib.ListN.{length}
 use borrow.Author.Tests.{le-leb}
-use Rattle.choice.proofs.Tests.{if_yes}
 use Rattle.cuts.proofs.Cell.{mem}
 use Rattle.cuts.proofs.Meta.{Geo, Codec}
 use Rattle.cuts.proofs.Step.{gread}
 use Rattle.cuts.proofs.Call.{Ok}
 use Rattle.units.specs.Units.{UnitStore, apply_all}
 use Rattle.units.specs.Plan.{Plan, refused, units, plan_units, stores_count, ended, outcome}
-use Rattle.units.specs.declared.Outcome.{Outcome}
+use Rattle.units.specs.declared.Ended.{Ended}
 use Rattle.qcow2_spec.specs.Header.{cluster_size, disk_size}
 use Rattle.qcow2_spec.specs.Guest.{guest_byte}
 use Rattle.qcow2_spec.specs.Disk.{Request, plan_of, finished, Fed}
@@ -55,7 +55,7 @@ ok_after g K m0 s t p q =
 pub ends-wholly : (p : Plan) → outcome p (length (plan_units p)) ≡ wholly p
 unfolding outcome ended wholly plan_units
 ends-wholly (refused k) = refl
-ends-wholly (units us) = if_yes _ _ _ (le-leb (length us) (length us) (le_refl (length us)))
+ends-wholly (units us) = rw (le-leb (length us) (length us) (le_refl (length us)))
 
 pub whole-left : (backing s : List ℕ) (r : Request) → after_loose (plan_of backing s r) (length (plan_units (plan_of backing s r))) [] s ≡ ran backing s r
 unfolding after_loose ran
@@ -72,7 +72,7 @@ module _ (backing start : List ℕ) (bb : Bytes backing) where
     ran-result =
         let p = plan_of backing s r in
         subst (λ (t : List ℕ). Result backing start s k r (wholly p) (stores_count (plan_units p)) t) (whole-left backing s r)
-        (subst (λ (o : Outcome). Result backing start s k r o (stores_count (plan_units p)) (after_loose p (length (plan_units p)) [] s)) (ends-wholly p)
+        (subst (λ (o : Outcome Ended ℕ). Result backing start s k r o (stores_count (plan_units p)) (after_loose p (length (plan_units p)) [] s)) (ends-wholly p)
         (result backing start s k bb r (length (plan_units p)) [] p (plan_sure backing s (fs backing start s k) bb (own backing start s k) k.judged r sm)))
 
     pub ran-good : Good backing start start → Good backing start (ran backing s r)
@@ -83,7 +83,7 @@ module _ (backing start : List ℕ) (bb : Bytes backing) where
         let w = step backing start s k bb b (record { asks = r; allowance = length (plan_units p) }) [] sm in (
           subst (Good backing start) (whole-left backing s r) w.0,
           subst (λ (t : List ℕ). Fed (wholly p) (stores_count (plan_units p)) (disk_size start) (shows s) (finished (cluster_size start) r (shows s)) (shows t)) (whole-left backing s r)
-              (subst (λ (o : Outcome). Fed o (stores_count (plan_units p)) (disk_size start) (shows s) (finished (cluster_size start) r (shows s)) (shows (after_loose p (length (plan_units p)) [] s))) (ends-wholly p) w.1.fed),
+              (subst (λ (o : Outcome Ended ℕ). Fed o (stores_count (plan_units p)) (disk_size start) (shows s) (finished (cluster_size start) r (shows s)) (shows (after_loose p (length (plan_units p)) [] s))) (ends-wholly p) w.1.fed),
         )
 
   -- all of them

@@ -1,4 +1,5 @@
 -- The plain disk of a batch of which each guest cluster shows its own number of calls: each call is old or new as a whole. Assumes nothing.
+use Rattle.std.specs.Prelude.{Result}
 use Prim.Native.Nat.{ℕ, zero, suc, ◌-◌, ◌/◌, ◌%◌, ◌≤◌, ◌<◌}
 use native.Mathlib.Nat.{suc-ne-zero}
 use native.Mathlib.Decide.{ℕ_discrete}
@@ -14,7 +15,7 @@ use Rattle.choice.specs.Pick.{unless}
 use Rattle.choice.proofs.Tests.{if_no, if_elim, or-false}
 use Rattle.units.specs.Units.{apply_all}
 use Rattle.units.specs.Plan.{Plan, refused, units, plan_units, stores_count}
-use Rattle.units.specs.declared.Outcome.{Outcome}
+use Rattle.units.specs.declared.Ended.{Ended}
 use Rattle.qcow2_spec.specs.Header.{cluster_size, disk_size, judge}
 use Rattle.qcow2_spec.specs.Guest.{outside}
 use Rattle.qcow2_spec.specs.Store.{clearing, judged, write_list, write_plan}
@@ -77,7 +78,7 @@ module _ (backing start : List ℕ) where
   C = cluster_size start
 
   -- ---- the plain disks may be read off by either side
-  pub fed-all-same : (how : Plan → Outcome) (s : List ℕ) (rs : List Request) (old old' now now' : ℕ → ℕ) → SameDisk size old old' → SameDisk size now now'
+  pub fed-all-same : (how : Plan → Result Ended ℕ) (s : List ℕ) (rs : List Request) (old old' now now' : ℕ → ℕ) → SameDisk size old old' → SameDisk size now now'
       → FedAll how backing start s old rs now → FedAll how backing start s old' rs now'
   unfolding FedAll SameDisk
   fed-all-same how s [] old old' now now' ho hw h = λ y l. sym (hw y l) ∙ h y l ∙ ho y l

@@ -1,5 +1,5 @@
 -- The rows that a store is told, call by call, are those of a batch that may be stored together. Assumes nothing.
-use Rattle.std.specs.Prelude.{if◌then◌else◌}
+use Rattle.std.specs.Prelude.{if◌then◌else◌, Ok, Result}
 use Prim.Native.Nat.{ℕ, zero, suc, ◌+◌, ◌*◌, ◌/◌, ◌≤◌, ◌<◌}
 use native.Mathlib.Omega.{arith}
 use mathlib.Core.Path.{◌≡◌, refl, sym, ap, ap₂, ◌∙◌}
@@ -20,6 +20,7 @@ use Rattle.qcow2_spec.proofs.Series.{each_same}
 use Rattle.qcow2_batches.specs.Batch.{clash, call_phase, ready_after, ran, memory, batch_phase, batch_phases, Allowed}
 use Rattle.qcow2_batches.specs.Rows.{rows_in, new_rows, must_end, answered, rows_after, rows_left}
 use Rattle.qcow2_batches.specs.Told.{Told, RowsBatch, rows_below, StoreBrought}
+use Rattle.qcow2_batches.specs.declared.Planned.{Planned}
 use Rattle.qcow2_batches.specs.declared.Planned.TheVariants.{Ends, Rows}
 use Rattle.qcow2_batches.proofs.Covers.{Alike, covers-units, clash-none, clash-apart, in_alike}
 use Rattle.qcow2_batches.proofs.Plain.{rows_in-after, after-room, covers-plain, length_new, new_in}
@@ -42,12 +43,12 @@ held_alike f h =
     record { room = h.room; alike = λ p l x. h.alike p l x ∙ f p x; apart = λ x y z. h.apart x (f 1 x ∙ y) (f 3 x ∙ z) }
 
 -- a call is told its rows where it may join the batch
-told-units : (s : List ℕ) (us : List UnitStore) (k : ℕ) (rows : List ℕ) (j : ℕ) → answered s (units us) k rows ≡ Rows j
+told-units : (s : List ℕ) (us : List UnitStore) (k : ℕ) (rows : List ℕ) (j : ℕ) → answered s (units us) k rows ≡ Ok (Rows j)
     → (must_end s us k rows ≡ false) × (j ≡ k + length (new_rows s (rows_in 1 k rows) us) / 4)
 unfolding answered
 told-units s us k rows j e = go (must_end s us k rows) e
   where
-    go : (b : Bool) → (if b then Ends else Rows (k + length (new_rows s (rows_in 1 k rows) us) / 4)) ≡ Rows j
+    go : (b : Bool) → ◌≡◌ {A = Result Planned ℕ} (if b then Ok Ends else Ok (Rows (k + length (new_rows s (rows_in 1 k rows) us) / 4))) (Ok (Rows j))
         → (b ≡ false) × (j ≡ k + length (new_rows s (rows_in 1 k rows) us) / 4)
     go true q = absurd (let z : ◌≡◌ {A = ℕ} 0 1 = cc in omega arith)
     go false q = (refl, cc)
@@ -97,7 +98,7 @@ module _ (s : List ℕ) (us : List UnitStore) (k : ℕ) (rows : List ℕ) (a : �
       }
 
 -- the rows held once it is planned; a refused one is told none
-held_call : (s : List ℕ) (q : Plan) (k : ℕ) (rows : List ℕ) (a : ℕ → List Extent) → Held k rows a → (j : ℕ) → answered s q k rows ≡ Rows j
+held_call : (s : List ℕ) (q : Plan) (k : ℕ) (rows : List ℕ) (a : ℕ → List Extent) → Held k rows a → (j : ℕ) → answered s q k rows ≡ Ok (Rows j)
     → Held j (rows_left s q k rows) (λ p. extents (call_phase p s (a 1) (plan_units q)) ++ a p)
 unfolding answered rows_left plan_units
 held_call s (refused n) k rows a h j e = absurd (let z : ◌≡◌ {A = ℕ} 0 1 = cc in omega arith)

@@ -1,10 +1,10 @@
 -- Demand 3 for batches: what holds of every series of them on a drive that keeps no order between two flushes. Proved in proofs/Series.antt.
 -- Assumes nothing.
-use Rattle.std.specs.Prelude.{ℕ, ◌*◌, ◌≤◌, ◌≡◌, Bool, List, [], ◌∷◌, length, take}
+use Rattle.std.specs.Prelude.{ℕ, ◌*◌, ◌≤◌, ◌≡◌, Bool, List, [], ◌∷◌, length, take, Err, Ok, Result}
 use Rattle.units.specs.Units.{apply_all}
 use Rattle.units.specs.Plan.{Plan, refused, units, plan_units, stores_count}
-use Rattle.units.specs.declared.Outcome.{Outcome}
-use Rattle.units.specs.declared.Outcome.TheVariants.{Finished, Stopped, Refused}
+use Rattle.units.specs.declared.Ended.{Ended}
+use Rattle.units.specs.declared.Ended.TheVariants.{Finished, Stopped}
 use Rattle.qcow2_spec.specs.Header.{cluster_size, clusters, disk_size}
 use Rattle.qcow2_spec.specs.Guest.{guest_byte}
 use Rattle.qcow2_spec.specs.Check.{check}
@@ -15,17 +15,17 @@ use Rattle.qcow2_spec.specs.Series.{Healthy, Agrees, ClearedFirst, Bytes, BytesO
 use Rattle.qcow2_batches.specs.Batch.{ran, memory, batch_phases, Allowed, left_batch}
 
 -- how a call of a batch ends that may be stored in part: as one that is stopped
-unfoldable pub cut_short : Plan → Outcome
-cut_short (refused k) = Refused k
-cut_short (units us) = Stopped 0
+unfoldable pub cut_short : Plan → Result Ended ℕ
+cut_short (refused k) = Err k
+cut_short (units us) = Ok (Stopped 0)
 
 -- and of one that is stored whole
-unfoldable pub wholly : Plan → Outcome
-wholly (refused k) = Refused k
-wholly (units us) = Finished (length us)
+unfoldable pub wholly : Plan → Result Ended ℕ
+wholly (refused k) = Err k
+wholly (units us) = Ok (Finished (length us))
 
 -- the calls that are planned from the image s on find the plain disk `old`, each ends by itself as `how` has it, and the disk can then be `now`
-unfoldable pub FedAll : (how : Plan → Outcome) → (backing start s : List ℕ) (old : ℕ → ℕ) → List Request → (now : ℕ → ℕ) → Type 0
+unfoldable pub FedAll : (how : Plan → Result Ended ℕ) → (backing start s : List ℕ) (old : ℕ → ℕ) → List Request → (now : ℕ → ℕ) → Type 0
 FedAll how backing start s old [] now = SameDisk (disk_size start) now old
 FedAll how backing start s old (r ∷ rs) now =
     (next : ℕ → ℕ)

@@ -1,6 +1,6 @@
 -- What a store that plans requests call by call is told: they may be stored together, and its rows are the bytes to bring. Proved in proofs/Rows.antt.
 -- Assumes nothing.
-use Rattle.std.specs.Prelude.{ℕ, zero, suc, ◌*◌, ◌≤◌, ◌<◌, ◌≡◌, List, [], ◌∷◌, ◌++◌, take}
+use Rattle.std.specs.Prelude.{ℕ, zero, suc, ◌*◌, ◌≤◌, ◌<◌, ◌≡◌, List, [], ◌∷◌, ◌++◌, take, Ok}
 use Rattle.units.specs.Units.{apply_all}
 use Rattle.qcow2_spec.specs.Header.{clusters}
 use Rattle.qcow2_spec.specs.Check.{check}
@@ -17,7 +17,7 @@ use Rattle.qcow2_batches.specs.declared.Planned.TheVariants.{Rows}
 unfoldable pub Told : (backing s : List ℕ) → (k : ℕ) → (rows : List ℕ) → List Request → (n : ℕ) → (now : List ℕ) → Type 0
 Told backing s k rows [] n now = (n ≡ k) × (now ≡ rows)
 Told backing s k rows (r ∷ rs) n now =
-    (j : ℕ) × (answered s (plan_of backing s r) k rows ≡ Rows j) × Told backing (ran backing s r) j (rows_left s (plan_of backing s r) k rows) rs n now
+    (j : ℕ) × (answered s (plan_of backing s r) k rows ≡ Ok (Rows j)) × Told backing (ran backing s r) j (rows_left s (plan_of backing s r) k rows) rs n now
 
 -- such requests may be stored together, and the rows of each phase are the bytes of the batch's units there
 abbrev pub RowsBatch : Type 0

@@ -68,12 +68,13 @@ pub fn look(image: &[u8], scratch: &[u8], window: &mut [u8], g: Geometry) -> Loo
 {
     let n = g.clusters;
     // More bytes than clusters are not needed, and eight times as many might be too large a number.
-    let most = power::lesser(window.len(), n);
+    let most = window.len().min(n);
     let mut own = false;
     let mut same = true;
     let mut b = 0;
+    // A `while`: each window begins where the last one ended, and the last may be short.
     while b < n {
-        let k = power::lesser(8 * most, n - b);
+        let k = (8 * most).min(n - b);
         let w = look_window(image, scratch, window, g, b, k);
         if w.shared < n {
             return Looked {
@@ -83,7 +84,7 @@ pub fn look(image: &[u8], scratch: &[u8], window: &mut [u8], g: Geometry) -> Loo
             };
         }
         own = w.own;
-        same = qcow2_sweep::both(same, w.same);
+        same &= w.same;
         b += k;
     }
     Looked {

@@ -38,7 +38,7 @@ fn judge_next(w: Judge, image: &[u8], scratch: &[u8], order: u32, base: usize, m
     ensures { (Goes order image.now base m result × Judged image.now (figures_in scratch.now) (base + result.done) result.counted) × (ahead m result < ahead m w) }
 {
     let c = w.counted;
-    let k = power::lesser(w.step, m - w.done);
+    let k = w.step.min(m - w.done);
     let p = qcow2_figures::compared(image, scratch, order, w.at, base + w.done, k);
     if p.under == 0 {
         let all = Counted {
@@ -79,6 +79,7 @@ pub fn judge_block(
         at,
         step: 4096,
     };
+    // A `while`: how far a turn goes is a part of the state that it hands on (`Goes`).
     while w.done < m {
         w = judge_next(w, image, scratch, order, base, m);
         let d = w.counted;

@@ -7,6 +7,7 @@ ghost use Rattle.tally.specs.Tally.{difference};
 ghost use Rattle.units.specs.Plan.{outcome, after};
 ghost use Rattle.qcow2_spec.specs.Header.{cluster_bits as bits_of, disk_size, clusters as clusters_of, backing_offset, judge_lent, judge};
 ghost use Rattle.qcow2_backing.specs.Backing.{shown_length};
+ghost use Rattle.qcow2_spec.specs.Causes.{answer};
 ghost use Rattle.qcow2_spec.specs.Guest.{translate, read_number, read_into, in_place};
 ghost use Rattle.qcow2_spec.specs.Runs.{found_code, found_host, list_runs, runs_into};
 ghost use Rattle.qcow2_spec.specs.Store.{write_plan, discard_plan};
@@ -19,7 +20,17 @@ ghost use Rattle.qcow2_portion.specs.State.{scratch_portion};
 ghost use Rattle.qcow2_kept.specs.Kept.{portion_of, state_of, kept_after, answer_code, answer_first, answer_second, answer_third};
 ghost use Rattle.qcow2_codes.specs.Codes.{listed_code, listed_rows, planned_code, planned_rows, outcome_code, outcome_units, verdict_code, verdict_first, verdict_second, verdict_third};
 
-use qcow2_spec::Judged;
+use qcow2_spec::refusal::Refusal;
+
+// The number of a refusal, 0 where there is none.
+fn code_of(r: Result<(), Refusal>) -> u32
+    ensures { r ≡ answer result }
+{
+    match r {
+        Ok(()) => 0,
+        Err(e) => e.number() as u32,
+    }
+}
 
 #[unsafe(no_mangle)]
 pub extern "C" fn qcow2_backed_translate(
@@ -31,8 +42,8 @@ pub extern "C" fn qcow2_backed_translate(
     ensures { (result ≡ found_code (translate backing.now image.now offset)) × (host.new ≡ found_host (translate backing.now image.now offset)) }
 {
     let f = qcow2::translate(image, backing, offset);
-    *host = qcow2_alike::codes::found_host(f);
-    qcow2_alike::codes::found_code(f)
+    *host = qcow2_alike::codes::found_host(&f);
+    qcow2_alike::codes::found_code(&f)
 }
 
 #[unsafe(no_mangle)]
@@ -44,7 +55,7 @@ pub extern "C" fn qcow2_backed_read(
 ) -> u32
     ensures { (result ≡ read_number backing.now image.now 0 offset (length out.old)) × (out.new ≡ read_into backing.now image.now 0 offset out.old) }
 {
-    qcow2::read(image, backing, offset, out) as u32
+    code_of(qcow2::read(image, backing, offset, out))
 }
 
 #[unsafe(no_mangle)]
@@ -57,7 +68,7 @@ pub extern "C" fn qcow2_backed_read_snapshot(
 ) -> u32
     ensures { (result ≡ read_number backing.now image.now (suc snapshot) offset (length out.old)) × (out.new ≡ read_into backing.now image.now (suc snapshot) offset out.old) }
 {
-    qcow2::read_snapshot(image, backing, snapshot, offset, out) as u32
+    code_of(qcow2::read_snapshot(image, backing, snapshot, offset, out))
 }
 
 // How many guest bytes lie in place; they start at the host offset that qcow2_translate gives.
@@ -167,9 +178,8 @@ pub extern "C" fn qcow2_backed_check_portion(
 {
     let st = qcow2_kept::load(state);
     let p = st.portion(image, backing, scratch, may as usize);
-    qcow2_kept::keep(state, st, may as usize, p);
-    let a = p.answer;
-    qcow2_kept::put_answer(a, first, second, third)
+    qcow2_kept::keep(state, st, may as usize, &p);
+    qcow2_kept::put_answer(&p.answer, first, second, third)
 }
 
 // A stored count less the scratch's figure, with its sign: below zero the cluster is short.
@@ -191,15 +201,14 @@ pub extern "C" fn qcow2_backed_geometry(
 ) -> u32
     ensures { (result ≡ judge backing.now image.now) × ((cluster_bits.new ≡ (if eqb (judge backing.now image.now) 0 then bits_of image.now else 0)) × ((size.new ≡ (if eqb (judge backing.now image.now) 0 then disk_size image.now else 0)) × (clusters.new ≡ (if eqb (judge backing.now image.now) 0 then clusters_of image.now else 0)))) }
 {
-    let j = qcow2_header::judge(image, backing.len() != 0);
-    match j {
-        Judged::Refused(k) => {
+    match qcow2_header::judge(image, backing.len() != 0) {
+        Err(e) => {
             *cluster_bits = 0;
             *size = 0;
             *clusters = 0;
-            k as u32
+            e.number() as u32
         }
-        Judged::Accepted(g) => {
+        Ok(g) => {
             *cluster_bits = g.bits as u64;
             *size = g.size;
             *clusters = g.clusters as u64;
@@ -213,14 +222,13 @@ pub extern "C" fn qcow2_backed_geometry(
 pub extern "C" fn qcow2_backing_name(image: &[u8], at: &mut u64, len: &mut u64) -> u32
     ensures { (result ≡ judge_lent true image.now) × ((at.new ≡ (if eqb (judge_lent true image.now) 0 then backing_offset image.now else 0)) × (len.new ≡ (if eqb (judge_lent true image.now) 0 then shown_length image.now else 0))) }
 {
-    let j = qcow2_header::judge(image, true);
-    match j {
-        Judged::Refused(k) => {
+    match qcow2_header::judge(image, true) {
+        Err(e) => {
             *at = 0;
             *len = 0;
-            k as u32
+            e.number() as u32
         }
-        Judged::Accepted(g) => {
+        Ok(g) => {
             *at = qcow2_backing::name_at(image, g);
             *len = qcow2_backing::name_len(image, g);
             0

@@ -1,5 +1,5 @@
 -- The clearing unit, and a list that comes after it. Assumes nothing.
-use Rattle.std.specs.Prelude.{if◌then◌else◌}
+use Rattle.std.specs.Prelude.{if◌then◌else◌, Err, Ok, Result}
 use Prim.Native.Nat.{ℕ, zero, suc, ◌+◌, ◌-◌, ◌≤◌, ◌<◌}
 use native.Mathlib.Omega.{arith}
 use mathlib.Core.Path.{◌≡◌, refl, sym, ◌∙◌}
@@ -14,8 +14,8 @@ use Rattle.endian.specs.Big.{be64, bytes64}
 use Rattle.endian.proofs.Laws.{SamePart, splice-after, length-bytes64}
 use Rattle.units.specs.Units.{UnitStore, entry, apply_all}
 use Rattle.units.specs.Plan.{Plan, refused, units, ended, outcome, Done}
-use Rattle.units.specs.declared.Outcome.{Outcome}
-use Rattle.units.specs.declared.Outcome.TheVariants.{Finished, Stopped, Refused}
+use Rattle.units.specs.declared.Ended.{Ended}
+use Rattle.units.specs.declared.Ended.TheVariants.{Finished, Stopped}
 use Rattle.units.proofs.Laws.{entry-some}
 use Rattle.units.proofs.Steps.{refusal, nothing, ended-after, after_first}
 use Rattle.qcow2_spec.specs.Header.{version, autoclear}
@@ -31,9 +31,14 @@ whole-ended m b a = go (leb m b)
     go true = refl
     go false = refl
 
-pub within : (us : List UnitStore) (b : ℕ) (v t : List ℕ) (r : Outcome) → Done (units us) b v r t → Within r b
-unfolding outcome ended
-within us b v t r d = rw d.answer (go (leb (length us) b) refl)
+-- the answer is how the list ends
+pub end_is : (us : List UnitStore) (b : ℕ) (v t : List ℕ) (r : Ended) → Done (units us) b v (Ok r) t → r ≡ ended (length us) b
+unfolding outcome
+end_is us b v t r d = let e : ◌≡◌ {A = Result Ended ℕ} (Ok r) (Ok (ended (length us) b)) = d.answer in (cc e)
+
+pub within : (us : List UnitStore) (b : ℕ) (v t : List ℕ) (r : Ended) → Done (units us) b v (Ok r) t → Within r b
+unfolding ended
+within us b v t r d = rw (end_is us b v t r d) (go (leb (length us) b) refl)
   where
     go : (x : Bool) → leb (length us) b ≡ x → Within (if x then Finished (length us) else Stopped b) b
     go true e = leb-true _ _ e
@@ -74,24 +79,23 @@ module _ (s : List ℕ) where
             rw (← entry-some s 88 0 (suc b) (omega arith) (λ z. omega arith)) (splice-after s 88 (bytes64 0) x w (omega arith) (omega arith))
 
     -- ---- the units us after it, with b left
-    pub clear_first : (us : List UnitStore) (b : ℕ) (v t : List ℕ) (r : Outcome) → 0 < length us → b ≡ a - length (clear_units s) → v ≡ apply_all (take a (clear_units s)) s
-        → Done (units us) b v r t → Done (units (clear_units s ++ us)) a s (whole_end r b a) t
-    unfolding outcome
+    pub clear_first : (us : List UnitStore) (b : ℕ) (v t : List ℕ) (r : Ended) → 0 < length us → b ≡ a - length (clear_units s) → v ≡ apply_all (take a (clear_units s)) s
+        → Done (units us) b v (Ok r) t → Done (units (clear_units s ++ us)) a s (Ok (whole_end r b a)) t
     clear_first us b v t r h e p d =
-        let w : whole_end r b a ≡ whole_end (ended (length us) b) b a = rw d.answer in
+        let w : whole_end r b a ≡ whole_end (ended (length us) b) b a = rw (end_is us b v t r d) in
         after_first (clear_units s) us a b s v t r (whole_end r b a) e p (w ∙ whole-ended (length us) b a ∙ sym (ended-after (length (clear_units s)) (length us) a b e h)) d
 
     -- ---- a plan that it is put before
     module _ (p : Plan) where
-      pub clear-refused : (k : ℕ) → p ≡ refused k → Done (clearing s p) a s (Refused k) s
+      pub clear-refused : (k : ℕ) → p ≡ refused k → Done (clearing s p) a s (Err k) s
       unfolding clearing
-      clear-refused k e = rw e (refusal k a s (Refused k) refl)
+      clear-refused k e = rw e (refusal k a s (Err k) refl)
 
-      pub clear_idle : (r : Outcome) → p ≡ units [] → r ≡ ended 0 a → Done (clearing s p) a s r s
+      pub clear_idle : (r : Ended) → p ≡ units [] → r ≡ ended 0 a → Done (clearing s p) a s (Ok r) s
       unfolding clearing
       clear_idle r e f = rw e (nothing a s r f)
 
-      pub clear-stored : (us : List UnitStore) (r : Outcome) (t : List ℕ) → p ≡ units us → 0 < length us → Done (units (clear_units s ++ us)) a s r t → Done (clearing s p) a s r t
+      pub clear-stored : (us : List UnitStore) (r : Result Ended ℕ) (t : List ℕ) → p ≡ units us → 0 < length us → Done (units (clear_units s ++ us)) a s r t → Done (clearing s p) a s r t
       unfolding clearing
       clear-stored [] r t e h d = absurd (omega arith)
       clear-stored (u ∷ us) r t e h d = rw e d

@@ -9,7 +9,7 @@ ghost use Rattle.qcow2_spec.specs.Opened.{Opened};
 ghost use Rattle.qcow2_clear.specs.Ends.{Within, whole_end};
 
 use qcow2_spec::Geometry;
-use units::Outcome;
+use units::Ended;
 
 // Clears the field of version 3 where it is not zero, and returns what is left of the allowance.
 pub fn clear_field(image: &mut [u8], version: u32, allowance: usize) -> usize
@@ -35,13 +35,12 @@ pub fn clear(image: &mut [u8], g: Geometry, allowance: usize) -> usize
 }
 
 // How the whole list ended, by how the units after the clearing one ended within what it left of the allowance.
-pub fn whole_end(rest: Outcome, left: usize, allowance: usize) -> Outcome
+pub fn whole_end(rest: Ended, left: usize, allowance: usize) -> Ended
     requires { (left ≤ allowance) × Within rest left }
     ensures { result ≡ whole_end rest left allowance }
 {
     match rest {
-        Outcome::Finished(n) => Outcome::Finished(allowance - left + n),
-        Outcome::Stopped(_) => Outcome::Stopped(allowance),
-        Outcome::Refused(k) => Outcome::Refused(k),
+        Ended::Finished(n) => Ended::Finished(allowance - left + n),
+        Ended::Stopped(_) => Ended::Stopped(allowance),
     }
 }

@@ -1,45 +1,43 @@
 -- The answers as numbers for C: 0, a refusal's own number, or a code from 1001 on; and the values beside them.
 -- Assumes nothing.
-use Rattle.std.specs.Prelude.{ℕ, ◌-◌, eqb, if◌then◌else◌}
-use Rattle.units.specs.declared.Outcome.{Outcome}
-use Rattle.units.specs.declared.Outcome.TheVariants.{Finished, Stopped, Refused as NotDone}
-use Rattle.qcow2_spec.specs.declared.Listed.{Listed}
-use Rattle.qcow2_spec.specs.declared.Listed.TheVariants.{Refused as NotListed, Rows}
+use Rattle.std.specs.Prelude.{ℕ, ◌-◌, eqb, if◌then◌else◌, Err, Ok, Result}
+use Rattle.units.specs.declared.Ended.{Ended}
+use Rattle.units.specs.declared.Ended.TheVariants.{Finished, Stopped}
 use Rattle.qcow2_batches.specs.declared.Planned.{Planned}
-use Rattle.qcow2_batches.specs.declared.Planned.TheVariants.{Refused as NotPlanned, Ends, Rows as Held}
+use Rattle.qcow2_batches.specs.declared.Planned.TheVariants.{Ends, Rows as Held}
 use Rattle.qcow2_spec.specs.declared.Verdict.{Verdict}
 use Rattle.qcow2_spec.specs.declared.Verdict.TheVariants.{Sound, Leaks, BadL1, BadL2, Shared, Short, MarkL1, MarkL2, Refused as NotChecked}
 
 -- a listing of runs: 0, or the number; and how many were listed
-abbrev pub listed_code : Listed → ℕ
-listed_code (NotListed k) = k
-listed_code (Rows n) = 0
+abbrev pub listed_code : Result ℕ ℕ → ℕ
+listed_code (Err k) = k
+listed_code (Ok n) = 0
 
-abbrev pub listed_rows : Listed → ℕ
-listed_rows (NotListed k) = 0
-listed_rows (Rows n) = n
+abbrev pub listed_rows : Result ℕ ℕ → ℕ
+listed_rows (Err k) = 0
+listed_rows (Ok n) = n
 
 -- a call planned into a batch: 0, that the batch ends, or the number; and how many rows the batch holds
-abbrev pub planned_code : Planned → ℕ
-planned_code (NotPlanned k) = k
-planned_code Ends = 1014
-planned_code (Held n) = 0
+abbrev pub planned_code : Result Planned ℕ → ℕ
+planned_code (Err k) = k
+planned_code (Ok Ends) = 1014
+planned_code (Ok (Held n)) = 0
 
-abbrev pub planned_rows : Planned → ℕ
-planned_rows (NotPlanned k) = 0
-planned_rows Ends = 0
-planned_rows (Held n) = n
+abbrev pub planned_rows : Result Planned ℕ → ℕ
+planned_rows (Err k) = 0
+planned_rows (Ok Ends) = 0
+planned_rows (Ok (Held n)) = n
 
 -- a write, discard or repair: 0 finished, stopped, or the number; and the units spent
-abbrev pub outcome_code : Outcome → ℕ
-outcome_code (Finished u) = 0
-outcome_code (Stopped u) = 1001
-outcome_code (NotDone k) = k
+abbrev pub outcome_code : Result Ended ℕ → ℕ
+outcome_code (Ok (Finished u)) = 0
+outcome_code (Ok (Stopped u)) = 1001
+outcome_code (Err k) = k
 
-abbrev pub outcome_units : Outcome → ℕ
-outcome_units (Finished u) = u
-outcome_units (Stopped u) = u
-outcome_units (NotDone k) = 0
+abbrev pub outcome_units : Result Ended ℕ → ℕ
+outcome_units (Ok (Finished u)) = u
+outcome_units (Ok (Stopped u)) = u
+outcome_units (Err k) = 0
 
 -- a check: 0 sound, leaking, what is damaged, or the number; and what is named. Entries of a snapshot's tables have codes of their own
 abbrev pub verdict_code : Verdict → ℕ

@@ -5,64 +5,65 @@ ghost use Rattle.std.specs.Prelude.{◌≡◌, ◌-◌, eqb, if◌then◌else◌
 ghost use Rattle.qcow2_codes.specs.Codes.{listed_code, listed_rows, planned_code, planned_rows, outcome_code, outcome_units, verdict_code, verdict_first, verdict_second, verdict_third};
 
 use qcow2_batches::Planned;
-use qcow2_spec::{Listed, Verdict};
-use units::Outcome;
+use qcow2_spec::Verdict;
+use qcow2_spec::refusal::Refusal;
+use units::Ended;
 
-fn listed_code(l: Listed) -> u32
-    ensures { result ≡ listed_code l }
+fn listed_code(l: &Result<usize, Refusal>) -> u32
+    ensures { result ≡ listed_code l.now }
 {
     match l {
-        Listed::Refused(k) => k as u32,
-        Listed::Rows(_) => 0,
+        Err(why) => why.number() as u32,
+        Ok(_) => 0,
     }
 }
 
-fn listed_rows(l: Listed) -> u64
-    ensures { result ≡ listed_rows l }
+fn listed_rows(l: &Result<usize, Refusal>) -> u64
+    ensures { result ≡ listed_rows l.now }
 {
     match l {
-        Listed::Refused(_) => 0,
-        Listed::Rows(n) => n as u64,
+        Err(_) => 0,
+        Ok(n) => *n as u64,
     }
 }
 
-fn planned_code(p: Planned) -> u32
-    ensures { result ≡ planned_code p }
+fn planned_code(p: &Result<Planned, Refusal>) -> u32
+    ensures { result ≡ planned_code p.now }
 {
     match p {
-        Planned::Refused(k) => k as u32,
-        Planned::Ends => 1014,
-        Planned::Rows(_) => 0,
+        Err(e) => e.number() as u32,
+        Ok(Planned::Ends) => 1014,
+        Ok(Planned::Rows(_)) => 0,
     }
 }
 
-fn planned_rows(p: Planned) -> u64
-    ensures { result ≡ planned_rows p }
+fn planned_rows(p: &Result<Planned, Refusal>) -> u64
+    ensures { result ≡ planned_rows p.now }
 {
     match p {
-        Planned::Refused(_) => 0,
-        Planned::Ends => 0,
-        Planned::Rows(n) => n as u64,
+        Err(_) => 0,
+        Ok(Planned::Ends) => 0,
+        Ok(Planned::Rows(n)) => *n as u64,
     }
 }
 
-fn outcome_code(o: Outcome) -> u32
-    ensures { result ≡ outcome_code o }
+fn outcome_code(o: &Result<Ended, Refusal>) -> u32
+    ensures { result ≡ outcome_code o.now }
 {
     match o {
-        Outcome::Finished(_) => 0,
-        Outcome::Stopped(_) => 1001,
-        Outcome::Refused(k) => k as u32,
+        Ok(Ended::Finished(_)) => 0,
+        Ok(Ended::Stopped(_)) => 1001,
+        Err(e) => e.number() as u32,
     }
 }
 
-fn outcome_units(o: Outcome) -> u64
-    ensures { result ≡ outcome_units o }
+fn outcome_units(o: &Result<Ended, Refusal>) -> u64
+    ensures { result ≡ outcome_units o.now }
 {
     match o {
-        Outcome::Finished(u) => u as u64,
-        Outcome::Stopped(u) => u as u64,
-        Outcome::Refused(_) => 0,
+        Ok(Ended::Finished(u)) => *u as u64,
+        Ok(Ended::Stopped(u)) => *u as u64,
+        Err(_) => 0,
     }
 }
 
@@ -148,25 +149,25 @@ fn verdict_third(v: Verdict) -> u64
 }
 
 // Each is stored with the values beside it, and its code is the answer.
-pub fn put_listed(l: Listed, count: &mut u64) -> u32
+pub fn put_listed(l: Result<usize, Refusal>, count: &mut u64) -> u32
     ensures { (result ≡ listed_code l) × (count.new ≡ listed_rows l) }
 {
-    *count = listed_rows(l);
-    listed_code(l)
+    *count = listed_rows(&l);
+    listed_code(&l)
 }
 
-pub fn put_planned(p: Planned, count: &mut u64) -> u32
+pub fn put_planned(p: Result<Planned, Refusal>, count: &mut u64) -> u32
     ensures { (result ≡ planned_code p) × (count.new ≡ planned_rows p) }
 {
-    *count = planned_rows(p);
-    planned_code(p)
+    *count = planned_rows(&p);
+    planned_code(&p)
 }
 
-pub fn put_outcome(o: Outcome, units: &mut u64) -> u32
+pub fn put_outcome(o: Result<Ended, Refusal>, units: &mut u64) -> u32
     ensures { (result ≡ outcome_code o) × (units.new ≡ outcome_units o) }
 {
-    *units = outcome_units(o);
-    outcome_code(o)
+    *units = outcome_units(&o);
+    outcome_code(&o)
 }
 
 pub fn put_verdict(v: Verdict, first: &mut u64, second: &mut u64, third: &mut u64) -> u32

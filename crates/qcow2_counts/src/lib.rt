@@ -66,13 +66,11 @@ pub fn block_place(image: &[u8], g: Geometry, b: usize) -> usize
     requires { Named g image.now b }
     ensures { (result ≡ be64 image.now (g.tableat + 8 * b)) × (result + 2 ^ g.bits ≤ length image.now) }
 {
-    power::lesser(
-        endian::load64(image, g.tableat + 8 * b) as usize,
-        image.len(),
-    )
+    let at = endian::load64(image, g.tableat + 8 * b) as usize;
+    at.min(image.len())
 }
 
-// The same in an accepted image.
+// The same in an accepted image. Two promises, not two bodies: a caller that knows Opened need not know of Named.
 pub fn block_at(image: &[u8], g: Geometry, b: usize) -> usize
     requires { Opened g image.now × (b < g.blocks) }
     ensures { (result ≡ block_at image.now b) × (result + 2 ^ g.bits ≤ length image.now) }
@@ -89,7 +87,7 @@ pub fn count_place(image: &[u8], g: Geometry, k: usize) -> usize
     bit_of(at, index_of(k, g.bits, g.order), g.order)
 }
 
-// The same in an accepted image.
+// The same in an accepted image, as block_at.
 pub fn count_at(image: &[u8], g: Geometry, k: usize) -> usize
     requires { Opened g image.now × (k < g.clusters) }
     ensures { (result ≡ count_at image.now k) × Inside g.order (length image.now) result }
@@ -103,5 +101,6 @@ pub fn run_of(g: Geometry, i: usize) -> usize
     ensures { ((1 ≤ result) × (i + result ≤ g.clusters)) × (i % per_of g + result ≤ per_of g) }
 {
     let per = per_block(g.bits, g.order);
-    power::lesser(per - index_of(i, g.bits, g.order), g.clusters - i)
+    let left = per - index_of(i, g.bits, g.order);
+    left.min(g.clusters - i)
 }

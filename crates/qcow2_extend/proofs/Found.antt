@@ -1,5 +1,5 @@
 -- The blocks that are to be made, by what was noted of them. Assumes nothing.
-use Rattle.std.specs.Prelude.{if◌then◌else◌}
+use Rattle.std.specs.Prelude.{if◌then◌else◌, Result}
 use Prim.Native.Nat.{ℕ, ◌+◌, ◌-◌, ◌*◌, ◌/◌, ◌≤◌, ◌<◌}
 use native.Mathlib.Nat.{mul-le-mul_right, zero-add, div-lt_iff_lt-mul}
 use native.Mathlib.Omega.{arith}
@@ -15,7 +15,7 @@ use Rattle.choice.proofs.Searches.{count_same, count_most}
 use Rattle.endian.specs.Big.{be64}
 use Rattle.units.specs.Units.{UnitStore}
 use Rattle.units.specs.Plan.{units, plan_units, ended, outcome, after, Done}
-use Rattle.units.specs.declared.Outcome.{Outcome}
+use Rattle.units.specs.declared.Ended.{Ended}
 use Rattle.units.proofs.Laws.{take_append}
 use Rattle.qcow2_noted.specs.declared.Notes.{Notes}
 use Rattle.qcow2_noted.specs.Noting.{unmade, mark_of}
@@ -24,7 +24,7 @@ use Rattle.qcow2_extend.specs.Making.{made_where, marked, NotedFrom}
 use Rattle.qcow2_extend.proofs.Makes.{length-made, made-same, made_split}
 
 -- more units change nothing where the first are all there are, or more than the allowance
-pub done_more : (us vs : List UnitStore) (a : ℕ) (s t : List ℕ) (r : Outcome) → (vs ≡ []) ⊎ (a < length us) → Done (units us) a s r t → Done (units (us ++ vs)) a s r t
+pub done_more : (us vs : List UnitStore) (a : ℕ) (s t : List ℕ) (r : Result Ended ℕ) → (vs ≡ []) ⊎ (a < length us) → Done (units us) a s r t → Done (units (us ++ vs)) a s r t
 unfolding outcome ended after plan_units
 done_more us vs a s t r (inl e) d = rw (e, append-nil) d
 done_more us vs a s t r (inr l) d =
@@ -87,7 +87,7 @@ module _ (p : Layout) (s : List ℕ) (start a : ℕ) (ms : List ℕ) (n : Notes)
         go (inr l) = inr (let pos : 0 < p.size + 1 = omega arith in (div-lt_iff_lt-mul pos).0 l)
 
     -- what storing those that were seen does within what is left of the allowance
-    pub done_all : (b : ℕ) (v t : List ℕ) (r : Outcome) → b ≤ a → Done (units (made_where p (unmade s p.table) start n.seen)) b v r t
+    pub done_all : (b : ℕ) (v t : List ℕ) (r : Result Ended ℕ) → b ≤ a → Done (units (made_where p (unmade s p.table) start n.seen)) b v r t
         → Done (units (made_where p (unmade s p.table) start (p.blocks - start))) b v r t
     done_all b v t r h d = rw (← all-units) (done_more _ later b v t r (go later_none) d)
       where

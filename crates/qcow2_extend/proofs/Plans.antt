@@ -1,5 +1,5 @@
 -- The plan by the places that the code works out. Assumes nothing.
-use Rattle.std.specs.Prelude.{if◌then◌else◌}
+use Rattle.std.specs.Prelude.{if◌then◌else◌, Err}
 use Prim.Native.Nat.{ℕ, zero, suc, ◌-◌, ◌*◌, ◌^◌, ◌≤◌}
 use native.Mathlib.Nat.{mul_assoc}
 use native.Mathlib.Omega.{arith}
@@ -11,9 +11,8 @@ use Rattle.choice.specs.Pick.{unless}
 use Rattle.tally.specs.Tally.{run}
 use Rattle.units.specs.Units.{cluster}
 use Rattle.units.specs.Plan.{refused, units, Done}
-use Rattle.units.specs.declared.Outcome.TheVariants.{Refused}
 use Rattle.units.proofs.Steps.{refusal}
-use Rattle.qcow2_spec.specs.Header.{most_bits, version, count_order, width, table_at, blocks, block_at}
+use Rattle.qcow2_spec.specs.Header.{most_bits, count_order, width, table_at, blocks, block_at}
 use Rattle.qcow2_spec.specs.Store.{clearing}
 use Rattle.qcow2_spec.specs.Opened.{geometry}
 use Rattle.qcow2_spec.specs.declared.Geometry.{Geometry}
@@ -27,13 +26,13 @@ use Rattle.qcow2_extend.specs.Making.{LaidOut, Fits, new_units, made_where, Read
 use Rattle.qcow2_extend.proofs.Blocks.{own_block, own-small}
 
 -- a refusal
-pub plan_refused : (s : List ℕ) (old a k : ℕ) → k ≡ extend_number s old → (k ≡ 0 → ⊥) → Done (extend_plan s old) a s (Refused k) s
+pub plan_refused : (s : List ℕ) (old a k : ℕ) → k ≡ extend_number s old → (k ≡ 0 → ⊥) → Done (extend_plan s old) a s (Err k) s
 unfolding extend_plan
 plan_refused s old a k e h = rw (← e) (go k h)
   where
-    go : (n : ℕ) → (n ≡ 0 → ⊥) → Done (unless n refused (clearing s (units (make_blocks s (new_blocks s old))))) a s (Refused n) s
+    go : (n : ℕ) → (n ≡ 0 → ⊥) → Done (unless n refused (clearing s (units (make_blocks s (new_blocks s old))))) a s (Err n) s
     go zero z = absurd (z refl)
-    go (suc n) z = refusal (suc n) a s (Refused (suc n)) refl
+    go (suc n) z = refusal (suc n) a s (Err (suc n)) refl
 
 module _ (g : Geometry) (s : List ℕ) (h : Held g s) (p : Layout) (l : LaidOut g p) where
   at_table : p.table ≡ table_at s

@@ -4,21 +4,19 @@
 ghost use Rattle.units.specs.Plan.{Done};
 ghost use Rattle.qcow2_longer.specs.Extend.{extend_plan};
 
-use units::Outcome;
+use qcow2_spec::refusal::Refusal;
+use units::Ended;
 
 mod making;
 mod storing;
 
 // Takes in what follows the first old bytes, with an allowance of units, and says how it ended.
-pub fn extend(image: &mut [u8], old: u64, allowance: usize) -> Outcome
+pub fn extend(image: &mut [u8], old: u64, allowance: usize) -> Result<Ended, Refusal>
     ensures { Done (extend_plan image.old old) allowance image.old result image.new }
 {
-    let k = qcow2_taken::extend_number(image, old);
-    if k != 0 {
-        return Outcome::Refused(k);
-    }
+    qcow2_taken::check_extend(image, old)?;
     let g = qcow2_headed::gather(image);
     let from = qcow2_fields::block_count(old, g.bits, g.order) as usize;
     let p = making::layout_of(g);
-    storing::take_in(image, p, g.version, from, allowance)
+    Ok(storing::take_in(image, p, g.version, from, allowance))
 }

@@ -47,7 +47,7 @@ fn lay_block(part: &mut [u8], own: usize, left: usize) -> usize
     requires { own < length part.old }
     ensures { (result ≡ min left (length part.old)) × (part.new ≡ splice part.old 0 (take result (cluster (length part.old) own (1 ∷ [])))) }
 {
-    let k = power::lesser(left, part.len());
+    let k = left.min(part.len());
     copy::zeros(part, 0, k);
     if own < k {
         part[own] = 1;
@@ -84,9 +84,7 @@ pub fn make_all(image: &mut [u8], p: Layout, marks: &[u8], start: usize, end: us
     ensures { image.new ≡ apply_all (take left (made_where p (marked start marks.now) start (end - start))) image.old }
 {
     let mut rest = left;
-    let mut i = start;
-    while i < end {
+    for i in start..end {
         rest = make_block(image, p, i, marks[i - start], rest);
-        i += 1;
     }
 }

@@ -26,15 +26,13 @@ pub fn judge_each(
     let clusters = scratch.len() / 2;
     let width = power::power(order) as usize;
     let mut d = c;
-    let mut j = 0;
-    while j < m {
+    for j in 0..m {
         let stored = widths::load(image, order, at + width * j);
         let figure = endian::load16(scratch, 2 * (base + j));
         d = tally::against::count_one(d, base + j, stored, figure, clusters);
         if d.low < clusters {
             return d;
         }
-        j += 1;
     }
     d
 }

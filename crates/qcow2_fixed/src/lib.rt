@@ -37,11 +37,9 @@ fn visit_blocks(
     ensures { board target.new result ≡ visit_all_in kind b (joined (named (cluster_size image.now)) (take (blocks_of image.now) (table_of image.now))) (board target.old low) }
 {
     let mut least = low;
-    let mut i = 0;
-    while i < g.blocks {
+    for i in 0..g.blocks {
         let at = qcow2_counts::block_at(image, g, i);
         least = visit_place(target, least, at as u64, g.bits, kind, b);
-        i += 1;
     }
     least
 }

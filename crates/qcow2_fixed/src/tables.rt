@@ -37,11 +37,9 @@ pub fn visit_roots(
     ensures { board target.new result ≡ visit_all_in kind b (joined (root_run image.now) (run 0 (roots image.now))) (board target.old low) }
 {
     let mut least = low;
-    let mut t = 0;
-    while t < g.snapshots + 1 {
+    for t in 0..g.snapshots + 1 {
         let r = qcow2_snapshots::root_at(image, g, t);
         least = visit_root(image, target, least, r, kind, b);
-        t += 1;
     }
     least
 }

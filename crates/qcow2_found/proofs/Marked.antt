@@ -1,6 +1,6 @@
 -- What every L2 entry gives: plain, empty and marked ones, and those that are refused.
 -- Assumes nothing.
-use Rattle.std.specs.Prelude.{if◌then◌else◌}
+use Rattle.std.specs.Prelude.{if◌then◌else◌, Err, Ok, Result}
 use Prim.Native.Nat.{ℕ, ◌+◌, ◌-◌, ◌/◌, ◌%◌, ◌^◌, ◌≤◌, ◌<◌}
 use native.Mathlib.Omega.{arith}
 use mathlib.Core.Path.{◌≡◌, refl, sym, ap, ◌∙◌}
@@ -13,9 +13,9 @@ use Rattle.qcow2_spec.specs.Header.{most_length}
 use Rattle.qcow2_spec.specs.Entries.{place, good_place, good_l2, compressed, zero_mark}
 use Rattle.qcow2_spec.specs.Guest.{entry_way, entry_gives, way_gives}
 use Rattle.qcow2_spec.specs.declared.Found.{Found}
-use Rattle.qcow2_spec.specs.declared.Found.TheVariants.{Host, Zeros, Absent, Refused}
+use Rattle.qcow2_spec.specs.declared.Found.TheVariants.{Host, Zeros, Absent}
 use Rattle.qcow2_spec.specs.declared.Way.{Way}
-use Rattle.qcow2_spec.specs.declared.Way.TheVariants.{Bad, Slot}
+use Rattle.qcow2_spec.specs.declared.Way.TheVariants.{Slot}
 use Rattle.qcow2_plain.specs.Plain.{bare, plain, marked}
 use Rattle.qcow2_found.specs.Entry.{entry_found}
 use Rattle.qcow2_plain.proofs.Plain.{low_bits, plain-parts, plain-good, plain-way, plain-gives, other-gives, empty_only, good-plain}
@@ -24,40 +24,43 @@ pub entry-way : (v C n at e o : ℕ) → way_gives (entry_way v C n at e) o ≡ 
 unfolding entry_way way_gives entry_found
 entry-way v C n at e o = go (compressed e) (good_l2 v C n e)
   where
-    go : (a b : Bool) → way_gives (if a then Bad 13 else if not b then Bad 12 else Slot at e) o ≡ (if a then Refused 13 else if not b then Refused 12 else entry_gives e o)
+    go : (a b : Bool) → way_gives (if a then Err 13 else if not b then Err 12 else Ok (Slot at e)) o ≡ (if a then Err 13 else if not b then Err 12 else Ok (entry_gives e o))
     go true b = refl
     go false true = refl
     go false false = refl
 
 -- ---- plain entries
 module _ (v b n e o : ℕ) where
-  pub found_plain : 9 ≤ b → n ≤ most_length → plain (2 ^ b) n e ≡ true → entry_found v (2 ^ b) n e o ≡ Host (bare e + o)
+  pub found_plain : 9 ≤ b → n ≤ most_length → plain (2 ^ b) n e ≡ true → entry_found v (2 ^ b) n e o ≡ Ok (Host (bare e + o))
   unfolding way_gives
-  found_plain l h p = sym (entry-way v (2 ^ b) n 0 e o) ∙ ap (λ (w : Way). way_gives w o) (plain-way b n e l h p v 0) ∙ plain-gives b n e l h p o
+  found_plain l h p = sym (entry-way v (2 ^ b) n 0 e o) ∙ ap (λ (w : Result Way ℕ). way_gives w o) (plain-way b n e l h p v 0) ∙ ap Ok (plain-gives b n e l h p o)
 
 module _ (v C n e o : ℕ) where
-  pub found-other : (h : ℕ) → plain C n e ≡ false → entry_found v C n e o ≡ Host h → ⊥
+  pub found-other : (h : ℕ) → plain C n e ≡ false → entry_found v C n e o ≡ Ok (Host h) → ⊥
   found-other h p y = other-gives v C n 0 e o h p (entry-way v C n 0 e o ∙ y)
 
   -- ---- empty entries
-  pub found-empty : e ≡ 0 → entry_found v C n e o ≡ Absent
+  pub found-empty : e ≡ 0 → entry_found v C n e o ≡ Ok Absent
   unfolding entry_found good_l2 good_place place compressed zero_mark entry_gives
   found-empty z = rw z
 
-  pub found-filled : (e ≡ 0 → ⊥) → entry_found v C n e o ≡ Absent → ⊥
+  pub found-filled : (e ≡ 0 → ⊥) → entry_found v C n e o ≡ Ok Absent → ⊥
   unfolding entry_found entry_gives
   found-filled z =
       if_elim P (compressed e) _ _ (λ c. refused 13)
       (λ c. if_elim P (not (good_l2 v C n e)) _ _ (λ d. refused 12)
-      (λ d. if_elim P (zero_mark e) _ _ (λ m y. let w : ◌≡◌ {A = ℕ} 0 1 = cc in omega arith)
-      (λ m. if_elim P (eqb (place e) 0) _ _ (λ q y. z (empty_only v C n e (not-false _ d) m (eqb-true _ _ q)))
-      (λ q y. let w : ◌≡◌ {A = ℕ} 0 1 = cc in omega arith))))
+      (λ d. if_elim Q (zero_mark e) _ _ (λ m y. cc)
+      (λ m. if_elim Q (eqb (place e) 0) _ _ (λ q y. z (empty_only v C n e (not-false _ d) m (eqb-true _ _ q)))
+      (λ q y. cc))))
     where
-      P : Found → Type 0
-      P f = f ≡ Absent → ⊥
+      P : Result Found ℕ → Type 0
+      P x = x ≡ Ok Absent → ⊥
 
-      refused : (k : ℕ) → Refused k ≡ Absent → ⊥
-      refused k y = let w : ◌≡◌ {A = ℕ} 0 1 = cc in omega arith
+      Q : Found → Type 0
+      Q x = P (Ok x)
+
+      refused : (k : ℕ) → P (Err k)
+      refused k y = cc
 
 -- ---- an entry with its mark, and without it
 good-same : (C n e : ℕ) → e % 512 ≡ 1 → good_l2 3 C n e ≡ good_l2 3 C n (e - 1)
@@ -83,11 +86,11 @@ good_flat v C n e = go (compressed e)
     go false h = refl
 
 module _ (C n e o : ℕ) where
-  good-zeros : good_l2 3 C n e ≡ true → e % 2 ≡ 1 → entry_found 3 C n e o ≡ Zeros
+  good-zeros : good_l2 3 C n e ≡ true → e % 2 ≡ 1 → entry_found 3 C n e o ≡ Ok Zeros
   unfolding entry_found entry_gives zero_mark
   good-zeros h m = rw (good_flat 3 C n e h, h, m)
 
-  one-zeros : e ≡ 1 → entry_found 3 C n e o ≡ Zeros
+  one-zeros : e ≡ 1 → entry_found 3 C n e o ≡ Ok Zeros
   unfolding entry_found good_l2 good_place place compressed zero_mark entry_gives
   one-zeros z = rw z
 
@@ -96,14 +99,14 @@ unfolding bare
 one-low e p q = omega arith
 
 module _ (v b n e o : ℕ) (l : 9 ≤ b) (s : n ≤ most_length) where
-  pub found-marked : marked v (2 ^ b) n e ≡ true → entry_found v (2 ^ b) n e o ≡ Zeros
+  pub found-marked : marked v (2 ^ b) n e ≡ true → entry_found v (2 ^ b) n e o ≡ Ok Zeros
   unfolding marked
   found-marked h =
       let t = and-true (eqb v 3) _ h in
       let w : v ≡ 3 = eqb-true _ _ t.0 in
       rw w (go (or-true (eqb e 1) _ t.1))
     where
-      go : (eqb e 1 ≡ true) ⊎ (plain (2 ^ b) n (e - 1) ≡ true) → entry_found 3 (2 ^ b) n e o ≡ Zeros
+      go : (eqb e 1 ≡ true) ⊎ (plain (2 ^ b) n (e - 1) ≡ true) → entry_found 3 (2 ^ b) n e o ≡ Ok Zeros
       go (inl a) = one-zeros (2 ^ b) n e o (eqb-true _ _ a)
       go (inr a) =
           let p = plain-parts b n (e - 1) a in
@@ -148,32 +151,35 @@ module _ (v C n e : ℕ) where
           or_right false = refl
 
 module _ (v C n e o : ℕ) where
-  pub found_unmarked : marked v C n e ≡ false → entry_found v C n e o ≡ Zeros → ⊥
+  pub found_unmarked : marked v C n e ≡ false → entry_found v C n e o ≡ Ok Zeros → ⊥
   unfolding entry_found entry_gives
   found_unmarked f =
       if_elim P (compressed e) _ _ (λ c. refused 13)
       (λ c. if_elim P (not (good_l2 v C n e)) _ _ (λ d. refused 12)
-      (λ d. if_elim P (zero_mark e) _ _ (λ m y. true-not-false (mark_right v C n e (not-false _ d) m) f)
-      (λ m. if_elim P (eqb (place e) 0) _ _ (λ q y. let w : ◌≡◌ {A = ℕ} 0 1 = cc in omega arith)
-      (λ q y. let w : ◌≡◌ {A = ℕ} 0 1 = cc in omega arith))))
+      (λ d. if_elim Q (zero_mark e) _ _ (λ m y. true-not-false (mark_right v C n e (not-false _ d) m) f)
+      (λ m. if_elim Q (eqb (place e) 0) _ _ (λ q y. cc)
+      (λ q y. cc))))
     where
-      P : Found → Type 0
-      P x = x ≡ Zeros → ⊥
+      P : Result Found ℕ → Type 0
+      P x = x ≡ Ok Zeros → ⊥
 
-      refused : (k : ℕ) → Refused k ≡ Zeros → ⊥
-      refused k y = let w : ◌≡◌ {A = ℕ} 0 1 = cc in omega arith
+      Q : Found → Type 0
+      Q x = P (Ok x)
+
+      refused : (k : ℕ) → P (Err k)
+      refused k y = cc
 
   -- ---- what is left is refused
-  pub found-refused : plain C n e ≡ false → (e ≡ 0 → ⊥) → marked v C n e ≡ false → entry_found v C n e o ≡ Refused (if compressed e then 13 else 12)
+  pub found-refused : plain C n e ≡ false → (e ≡ 0 → ⊥) → marked v C n e ≡ false → entry_found v C n e o ≡ Err (if compressed e then 13 else 12)
   unfolding entry_found entry_gives
   found-refused p z m = go (compressed e) (good_l2 v C n e) refl refl
     where
-      go : (a b : Bool) → compressed e ≡ a → good_l2 v C n e ≡ b → entry_found v C n e o ≡ Refused (if compressed e then 13 else 12)
+      go : (a b : Bool) → compressed e ≡ a → good_l2 v C n e ≡ b → entry_found v C n e o ≡ Err (if compressed e then 13 else 12)
       go true b c h = rw c
       go false false c h = rw (c, h)
       go false true c h = absurd (each (zero_mark e) (eqb (place e) 0) (rw (c, h)))
         where
-          each : (a b : Bool) → entry_found v C n e o ≡ (if a then Zeros else if b then Absent else Host (place e + o)) → ⊥
+          each : (a b : Bool) → entry_found v C n e o ≡ Ok (if a then Zeros else if b then Absent else Host (place e + o)) → ⊥
           each true b y = found_unmarked m y
           each false true y = found-filled v C n e o z y
           each false false y = found-other v C n e o (place e + o) p y

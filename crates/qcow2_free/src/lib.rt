@@ -36,8 +36,9 @@ fn free_on(image: &[u8], g: Geometry, start: usize) -> usize
     let mut b = qcow2_counts::block_of(start, g.bits, g.order);
     let mut j = qcow2_counts::index_of(start, g.bits, g.order);
     let mut left = g.clusters - (start - j);
+    // A `while`: block, index and what is left go on together.
     while j < left {
-        let end = power::lesser(per, left);
+        let end = per.min(left);
         let f = free_in(image, g, b, j, end);
         if f < end {
             return g.clusters - left + f;
@@ -54,7 +55,7 @@ fn eighth(i: usize, n: usize) -> usize
     requires { (i ≤ n) × (n ≤ most_length) }
     ensures { ((i ≤ result) × (result ≤ n)) × ((result ≤ i + (8 - i % 8) % 8) × (result < n → result % 8 ≡ 0)) }
 {
-    power::lesser(i + (8 - i % 8) % 8, n)
+    (i + (8 - i % 8) % 8).min(n)
 }
 
 // The lowest free cluster of those from start on and below up, whose counts stand in one block; up where there is none.

@@ -1,7 +1,7 @@
 // The number of free clusters: counts of 0 in the refcount blocks.
 #![tactic(auto)]
 
-ghost use Rattle.std.specs.Prelude.{◌≡◌, ◌*◌, ◌^◌, ◌≤◌, ◌<◌, eqb, length, if◌then◌else◌};
+ghost use Rattle.std.specs.Prelude.{◌≡◌, ◌*◌, ◌^◌, ◌≤◌, ◌<◌, length};
 ghost use Rattle.choice.specs.Pick.{count};
 ghost use Rattle.packed.specs.Packed.{zero_at};
 ghost use Rattle.qcow2_spec.specs.Header.{most_length, most_order, per_block};
@@ -10,23 +10,15 @@ ghost use Rattle.qcow2_spec.specs.Opened.{Opened};
 
 use qcow2_spec::Geometry;
 
-// 1 for a count of 0.
-fn one_free(stored: u64) -> usize
-    ensures { (result ≡ (if eqb stored 0 then 1 else 0)) × (result ≤ 1) }
-{
-    if stored == 0 { 1 } else { 0 }
-}
-
-// How many of the first m counts of 16 bits of a refcount block are 0.
+// How many of the first m counts of 16 bits of a refcount block are 0. It is a loop of its own, since the compiler makes no vector code of one over
+// `widths::load`, also where the order is a constant 4.
 fn zeros_in(block: &[u8], m: usize) -> usize
     requires { 2 * m ≤ length block.now }
     ensures { result ≡ count (zero_at 4 block.now) 0 m }
 {
     let mut n = 0;
-    let mut j = 0;
-    while j < m {
-        n += one_free(endian::load16(block, 2 * j) as u64);
-        j += 1;
+    for j in 0..m {
+        n += usize::from(endian::load16(block, 2 * j) == 0);
     }
     n
 }
@@ -38,10 +30,8 @@ fn zeros_packed(block: &[u8], order: u32, m: usize) -> usize
 {
     let width = power::power(order) as usize;
     let mut n = 0;
-    let mut j = 0;
-    while j < m {
-        n += one_free(widths::load(block, order, width * j));
-        j += 1;
+    for j in 0..m {
+        n += usize::from(widths::load(block, order, width * j) == 0);
     }
     n
 }
@@ -77,8 +67,9 @@ pub fn free_clusters(image: &[u8], g: Geometry) -> usize
     let mut found = 0;
     let mut b = 0;
     let mut k = 0;
+    // A `while`: block and cluster go on together, and the last block may be short.
     while k < n {
-        let m = power::lesser(per, n - k);
+        let m = per.min(n - k);
         found += free_in(image, b, m, g);
         k += m;
         b += 1;

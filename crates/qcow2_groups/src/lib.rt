@@ -91,16 +91,13 @@ fn walk_each(
     ensures { ((i ≤ result) × (result ≤ i + 64)) × AllGood kind version bits n table.now i scratch.old result scratch.new }
 {
     let end = i + 64;
-    let mut j = i;
-    while j < end {
+    for j in i..end {
         let e = endian::load64(table, 8 * j);
-        if walk_entry(scratch, e, version, bits, n, kind) {
-            j += 1;
-        } else {
+        if !walk_entry(scratch, e, version, bits, n, kind) {
             return j;
         }
     }
-    j
+    end
 }
 
 // The same. Zeros are passed over all at once. A walk that counts alone has a copy of the loop to itself, in which the kind is not looked at.
@@ -138,14 +135,13 @@ pub fn walk_good(
     requires { Room scratch.old bits n × (kind < 512) }
     ensures { (result ≤ length table.now / 8) × AllGood kind version bits n table.now 0 scratch.old result scratch.new }
 {
-    let per = table.len() / 8;
-    let mut j = 0;
-    while 64 <= per - j {
+    let groups = table.len() / 512;
+    for d in 0..groups {
+        let j = 64 * d;
         let k = walk_group(table, scratch, j, version, bits, n, kind);
         if k < j + 64 {
             return k;
         }
-        j = k;
     }
-    j
+    64 * groups
 }

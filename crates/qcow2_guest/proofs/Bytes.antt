@@ -1,5 +1,6 @@
 -- The disk's bytes one L2 table at a time.
 -- Assumes nothing.
+use Rattle.std.specs.Prelude.{Err, Ok, Result}
 use Prim.Native.Nat.{ℕ, ◌+◌, ◌-◌, ◌*◌, ◌/◌, ◌%◌, ◌^◌, ◌≤◌, ◌<◌}
 use native.Mathlib.Nat.{add-zero, div-lt_iff_lt-mul, div-add-mod', mod-lt, add-mul, one-mul, mul-le-mul_right}
 use native.Mathlib.Omega.{arith}
@@ -18,8 +19,8 @@ use Rattle.qcow2_spec.specs.Runs.{moved}
 use Rattle.qcow2_spec.specs.Opened.{Opened}
 use Rattle.qcow2_spec.specs.declared.Geometry.{Geometry}
 use Rattle.qcow2_spec.specs.declared.Found.{Found}
-use Rattle.qcow2_spec.specs.declared.Found.TheVariants.{Host, Zeros, Absent, Refused}
-use Rattle.qcow2_spec.specs.declared.Way.TheVariants.{Bad, NoTable}
+use Rattle.qcow2_spec.specs.declared.Found.TheVariants.{Host, Zeros, Absent}
+use Rattle.qcow2_spec.specs.declared.Way.TheVariants.{NoTable}
 use Rattle.qcow2_spec.proofs.Facts.{Facts, facts, c_pos, e_pos}
 use Rattle.qcow2_spec.proofs.Refers.{placed1}
 use Rattle.qcow2_spec.proofs.Numbers.{part8}
@@ -54,21 +55,21 @@ below_lent s r t x n C c b = record {
 }
 
 -- ---- a piece whose L2 entry e is in the lent table l
-no_byte : (backing s : List ℕ) (x : ℕ) (f : Found) → ((k : ℕ) → f ≡ Host k → ⊥) → (f ≡ Absent → ⊥) → (j : ℕ) → found_byte backing s x (moved f j) ≡ 0
+no_byte : (backing s : List ℕ) (x : ℕ) (f : Result Found ℕ) → ((k : ℕ) → f ≡ Ok (Host k) → ⊥) → (f ≡ Ok Absent → ⊥) → (j : ℕ) → found_byte backing s x (moved f j) ≡ 0
 unfolding found_byte
-no_byte backing s x (Host h) n z j = absurd (n h refl)
-no_byte backing s x Zeros n z j = refl
-no_byte backing s x Absent n z j = absurd (z refl)
-no_byte backing s x (Refused k) n z j = refl
+no_byte backing s x (Ok (Host h)) n z j = absurd (n h refl)
+no_byte backing s x (Ok Zeros) n z j = refl
+no_byte backing s x (Ok Absent) n z j = absurd (z refl)
+no_byte backing s x (Err k) n z j = refl
 
 module _ (g : Geometry) (s l : List ℕ) (o : Opened g s) (x : ℕ) (b : Lent s g.root l x 1) (i e : ℕ) (p : i ≡ x / 2 ^ g.bits % 2 ^ (g.bits - 3)) (q : e ≡ be64 l (8 * i)) where
   entry_found_lem : located s g.root x ≡ entry_found (version s) (2 ^ g.bits) (length s) e (x % 2 ^ g.bits)
   entry_found_lem = rw (q, p, o.is-cluster, o.is-per) (rw add-zero at (b.finds 0 (omega arith)))
 
-  pub plain-found : plain (2 ^ g.bits) (length s) e ≡ true → located s g.root x ≡ Host (bare e + x % 2 ^ g.bits)
+  pub plain-found : plain (2 ^ g.bits) (length s) e ≡ true → located s g.root x ≡ Ok (Host (bare e + x % 2 ^ g.bits))
   plain-found h = entry_found_lem ∙ found_plain (version s) g.bits (length s) e (x % 2 ^ g.bits) o.low o.short h
 
-  pub empty-found : e ≡ 0 → located s g.root x ≡ Absent
+  pub empty-found : e ≡ 0 → located s g.root x ≡ Ok Absent
   empty-found z = entry_found_lem ∙ found-empty (version s) (2 ^ g.bits) (length s) e (x % 2 ^ g.bits) z
 
   pub other-found : plain (2 ^ g.bits) (length s) e ≡ false → (e ≡ 0 → ⊥) → (backing : List ℕ) (j : ℕ) → found_byte backing s (x + j) (moved (located s g.root x) j) ≡ 0
@@ -124,15 +125,15 @@ module _ (s : List ℕ) (r guest e : ℕ) (q : l1_entry s r guest ≡ e) where
       go false h = absurd (z (rw h))
 
   -- none is named, or the entry is bad
-  way-none : e ≡ 0 → way s r guest ≡ NoTable
+  way-none : e ≡ 0 → way s r guest ≡ Ok NoTable
   unfolding way good_l1 good_place place
   way-none z = rw (q, z)
 
-  way-bad : (e ≡ 0 → ⊥) → t ≡ 0 → way s r guest ≡ Bad 12
+  way-bad : (e ≡ 0 → ⊥) → t ≡ 0 → way s r guest ≡ Err 12
   unfolding table_of way
   way-bad n z = go (good_l1 (cluster_size s) (length s) e) refl
     where
-      go : (b : Bool) → good_l1 (cluster_size s) (length s) e ≡ b → way s r guest ≡ Bad 12
+      go : (b : Bool) → good_l1 (cluster_size s) (length s) e ≡ b → way s r guest ≡ Err 12
       go true h = let p : place e ≡ 0 = rw h at z in absurd (n (empty-row (cluster_size s) (length s) e h p))
       go false h = rw (q, h)
 

@@ -1,5 +1,6 @@
 -- The way to a guest cluster lies in the image.
 -- Assumes nothing.
+use Rattle.std.specs.Prelude.{Err, Ok, Result}
 use Prim.Native.Nat.{ℕ, ◌+◌, ◌*◌, ◌/◌, ◌%◌, ◌≤◌, ◌<◌}
 use native.Mathlib.Nat.{mod-lt, mul-div_cancel}
 use native.Mathlib.Omega.{arith}
@@ -17,17 +18,17 @@ use Rattle.qcow2_spec.specs.Guest.{reach, l1_entry_at, l1_entry, entry_way, l2_w
 use Rattle.qcow2_spec.specs.Opened.{Opened, Active}
 use Rattle.qcow2_spec.specs.declared.Geometry.{Geometry}
 use Rattle.qcow2_spec.specs.declared.Way.{Way}
-use Rattle.qcow2_spec.specs.declared.Way.TheVariants.{Bad, NoTable, Slot}
+use Rattle.qcow2_spec.specs.declared.Way.TheVariants.{NoTable, Slot}
 use Rattle.qcow2_spec.proofs.Facts.{facts, c_pos, e_pos}
 use Rattle.qcow2_spec.proofs.Refers.{placed1}
 use Rattle.qcow2_spec.proofs.Ways.{in_root}
 use Rattle.qcow2_spec.specs.Ready.{Slotted, Ready}
 
 -- a way through any L1 table that lies in the image
-abbrev pub Lies : Geometry → List ℕ → Way → (guest : ℕ) → Type 0
-Lies g s (Bad k) guest = Unit {0}
-Lies g s NoTable guest = l1_entry_at s g.root guest + 8 ≤ length s
-Lies g s (Slot a e) guest = Slotted g s a e
+abbrev pub Lies : Geometry → List ℕ → Result Way ℕ → (guest : ℕ) → Type 0
+Lies g s (Err k) guest = Unit {0}
+Lies g s (Ok NoTable) guest = l1_entry_at s g.root guest + 8 ≤ length s
+Lies g s (Ok (Slot a e)) guest = Slotted g s a e
 
 module _ (g : Geometry) (s : List ℕ) (o : Opened g s) where
   -- a byte of the disk has an L1 entry
@@ -48,7 +49,7 @@ module _ (g : Geometry) (s : List ℕ) (o : Opened g s) where
       (λ c. if_elim R (not (good_l2 (version s) (cluster_size s) (length s) e)) _ _ (λ d. tt)
       (λ d. record { opened = o; inside = inside (not-false _ b); good = not-false _ d }))))
     where
-      R : Way → Type 0
+      R : Result Way ℕ → Type 0
       R w = Lies g s w guest
 
       e : ℕ
@@ -71,7 +72,7 @@ module _ (g : Geometry) (s : List ℕ) (a : Active g s) where
       let r : guest / per_table s < root_size s g.root = rw a.1 h in
       go (way s 0 guest) (subst (λ (t : ℕ). Lies g s (way s t guest) guest) a.1 (way_lies g s a.0 guest r))
     where
-      go : (w : Way) → Lies g s w guest → Ready g s w guest
-      go (Bad k) l = tt
-      go NoTable l = subst (λ (t : ℕ). l1_entry_at s t guest + 8 ≤ length s) a.1 l
-      go (Slot b e) l = l
+      go : (w : Result Way ℕ) → Lies g s w guest → Ready g s w guest
+      go (Err k) l = tt
+      go (Ok NoTable) l = subst (λ (t : ℕ). l1_entry_at s t guest + 8 ≤ length s) a.1 l
+      go (Ok (Slot b e)) l = l

@@ -1,5 +1,6 @@
 -- The way by its tests, and where a byte lies by its way, in the code's terms.
 -- Assumes nothing.
+use Rattle.std.specs.Prelude.{Err, Ok, Result}
 use Prim.Native.Nat.{ℕ, ◌+◌, ◌-◌, ◌*◌, ◌/◌, ◌%◌, ◌^◌, ◌≤◌, ◌<◌}
 use native.Mathlib.Omega.{arith}
 use mathlib.Core.Path.{◌≡◌}
@@ -14,7 +15,7 @@ use Rattle.qcow2_spec.specs.Guest.{l1_entry_at, l1_entry, entry_way, l2_way, way
 use Rattle.qcow2_spec.specs.Opened.{Opened}
 use Rattle.qcow2_spec.specs.declared.Geometry.{Geometry}
 use Rattle.qcow2_spec.specs.declared.Way.{Way}
-use Rattle.qcow2_spec.specs.declared.Way.TheVariants.{Bad, NoTable}
+use Rattle.qcow2_spec.specs.declared.Way.TheVariants.{NoTable}
 use Rattle.qcow2_spec.proofs.Facts.{facts}
 use Rattle.qcow2_spec.proofs.Refers.{placed1}
 
@@ -38,7 +39,7 @@ module _ (g : Geometry) (s : List ℕ) (o : Opened g s) where
     tested : (b : Bool) → good_l1 (2 ^ g.bits) (length s) e ≡ b → good_l1 (cluster_size s) (length s) (l1_entry s g.root guest) ≡ b
     tested b h = rw (← o.is-cluster, ← q) h
 
-    pub way-bad : good_l1 (2 ^ g.bits) (length s) e ≡ false → Bad 12 ≡ way s g.root guest
+    pub way-bad : good_l1 (2 ^ g.bits) (length s) e ≡ false → Err 12 ≡ way s g.root guest
     unfolding way
     way-bad h = rw (tested false h)
 
@@ -46,7 +47,7 @@ module _ (g : Geometry) (s : List ℕ) (o : Opened g s) where
       pub table_in : place e + cluster_size s ≤ length s
       table_in = rw q (placed1 s (facts s o.accepted) (l1_entry s g.root guest) (tested true h)).inside
 
-      pub way-none : place e ≡ 0 → NoTable ≡ way s g.root guest
+      pub way-none : place e ≡ 0 → Ok NoTable ≡ way s g.root guest
       unfolding way
       way-none z = let t : place (l1_entry s g.root guest) ≡ 0 = rw (← q) z in rw (tested true h, eq-eqb (place (l1_entry s g.root guest)) 0 t)
 
@@ -55,6 +56,6 @@ module _ (g : Geometry) (s : List ℕ) (o : Opened g s) where
       way-some z = let t : place (l1_entry s g.root guest) ≡ 0 → ⊥ = rw (← q) z in rw (tested true h, ne_eqb (place (l1_entry s g.root guest)) 0 t, q)
 
   -- byte x of the disk, in guest cluster q at the end of way w
-  pub located-at : (x q r : ℕ) (w : Way) → q ≡ x / 2 ^ g.bits → r ≡ x % 2 ^ g.bits → way s g.root q ≡ w → way_gives w r ≡ located s g.root x
+  pub located-at : (x q r : ℕ) (w : Result Way ℕ) → q ≡ x / 2 ^ g.bits → r ≡ x % 2 ^ g.bits → way s g.root q ≡ w → way_gives w r ≡ located s g.root x
   unfolding located
   located-at x q r w d e h = rw (← o.is-cluster, ← d, ← e, h)

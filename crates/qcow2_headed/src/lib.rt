@@ -3,11 +3,13 @@
 
 ghost use Rattle.std.specs.Prelude.{◌≡◌};
 ghost use Rattle.qcow2_spec.specs.Header.{header_number};
+ghost use Rattle.qcow2_spec.specs.Causes.{answer};
 ghost use Rattle.qcow2_limits.specs.Limits.{Known};
 ghost use Rattle.qcow2_fields.specs.Fields.{Supported, Read};
 ghost use Rattle.qcow2_headed.specs.Numbers.{form_number, place_number};
 
 use qcow2_spec::Geometry;
+use qcow2_spec::refusal::{Cause, Refusal};
 
 const MAGIC: u32 = 0x514649FB;
 
@@ -39,55 +41,55 @@ pub fn gather(image: &[u8]) -> Geometry
 }
 
 // 8, 18 and 9: the size of the disk, and the places of the tables.
-fn place_number(image: &[u8], g: Geometry) -> u8
+fn check_places(image: &[u8], g: Geometry) -> Result<(), Refusal>
     requires { Read g image.now }
-    ensures { result ≡ place_number image.now }
+    ensures { result ≡ answer (place_number image.now) }
 {
     if qcow2_limits::oversize(g) {
-        return 8;
+        return Err(Cause::DiskSize.into());
     }
     if qcow2_limits::part_sector(g.size) {
-        return 18;
+        return Err(Cause::Sectors.into());
     }
     if qcow2_tables::places::misplaced_tables(g, image.len() as u64) {
-        return 9;
+        return Err(Cause::Tables.into());
     }
-    0
+    Ok(())
 }
 
 // 5 to 7, and those: the length, what is not supported, incompatible features.
-fn form_number(image: &[u8]) -> u8
+fn check_form(image: &[u8]) -> Result<(), Refusal>
     requires { Known image.now }
-    ensures { result ≡ form_number image.now }
+    ensures { result ≡ answer (form_number image.now) }
 {
     if qcow2_limits::odd_length(image) {
-        return 5;
+        return Err(Cause::Length.into());
     }
     if qcow2_fields::has_extras(image) {
-        return 6;
+        return Err(Cause::Unsupported.into());
     }
     if qcow2_fields::has_features(image) {
-        return 7;
+        return Err(Cause::Features.into());
     }
     let g = gather(image);
-    place_number(image, g)
+    check_places(image, g)
 }
 
-// The number of any bytes; 0 where none applies.
-pub fn header_number(image: &[u8]) -> u8
-    ensures { result ≡ header_number image.now }
+// The number of any bytes, where one applies.
+pub fn check_header(image: &[u8]) -> Result<(), Refusal>
+    ensures { result ≡ answer (header_number image.now) }
 {
     if qcow2_limits::too_short(image.len()) {
-        return 1;
+        return Err(Cause::TooShort.into());
     }
     if endian::load32(image, 0) != MAGIC {
-        return 2;
+        return Err(Cause::Magic.into());
     }
     if !qcow2_fields::is_version(endian::load32(image, 4)) {
-        return 3;
+        return Err(Cause::Version.into());
     }
     if qcow2_limits::wrong_bits(endian::load32(image, 20)) {
-        return 4;
+        return Err(Cause::ClusterBits.into());
     }
-    form_number(image)
+    check_form(image)
 }

@@ -1,6 +1,6 @@
 -- The chain of tests is the definition's judgement.
 -- Assumes nothing.
-use Rattle.std.specs.Prelude.{if◌then◌else◌}
+use Rattle.std.specs.Prelude.{if◌then◌else◌, Err}
 use Prim.Native.Nat.{ℕ, zero, suc}
 use mathlib.Core.Path.{◌≡◌, refl}
 use mathlib.Core.Bool.{Bool, true, false, not}
@@ -8,7 +8,6 @@ use mathlib.Core.List.{List}
 use Rattle.choice.specs.Pick.{unless}
 use Rattle.qcow2_spec.specs.Header.{header_number, table_number, backing_number, judge_lent, some_lent, judge}
 use Rattle.qcow2_spec.specs.Opened.{opened}
-use Rattle.qcow2_spec.specs.declared.Judged.TheVariants.{Refused}
 use Rattle.qcow2_spec.proofs.Open.{refused-is}
 use Rattle.qcow2_limits.specs.Limits.{odd_length}
 use Rattle.qcow2_fields.specs.Fields.{features}
@@ -32,7 +31,7 @@ unfolding opened judge_lent header_number table_number backing_number odd_length
 chain lent s = rw (before, before, before, before, before, before, before, before, before, before, turned, before)
 
 -- what a call answers where the image is refused
-pub unless-refused : {A : Type 0} (backing s : List ℕ) (k : ℕ) → opened (some_lent backing) s ≡ Refused k → (f : ℕ → A) (a : A) → unless (judge backing s) f a ≡ f k
+pub unless-refused : {A : Type 0} (backing s : List ℕ) (k : ℕ) → opened (some_lent backing) s ≡ Err k → (f : ℕ → A) (a : A) → unless (judge backing s) f a ≡ f k
 unfolding judge
 unless-refused backing s k e f a = let r = refused-is (some_lent backing) s k e in rw r.0 (go k r.1)
   where

@@ -1,5 +1,6 @@
 -- Laws of what the header gives.
 -- Assumes nothing.
+use Rattle.std.specs.Prelude.{Err, Result}
 use Prim.Native.Nat.{ℕ, zero, suc, ◌-◌, ◌*◌, ◌/◌, ◌%◌, ◌^◌, ◌≤◌, ◌<◌}
 use native.Mathlib.Nat.{mod-eq_of_lt, mul_left_comm, mul-le-mul_left, div-add-mod'}
 use native.Mathlib.Omega.{arith}
@@ -13,12 +14,10 @@ use Rattle.choice.specs.Pick.{unless}
 use Rattle.choice.proofs.Tests.{or-false}
 use Rattle.endian.specs.Big.{entries}
 use Rattle.endian.proofs.Entries.{part-rest}
-use Rattle.qcow2_spec.specs.Header.{sector, cluster_size, per_table, root_size, root_at, l1_at, table_at, blocks, table, too_big, odd_size, bad_tables, good_table, snapshots, snapshots_at}
+use Rattle.qcow2_spec.specs.Header.{sector, cluster_size, per_table, root_size, root_at, l1_at, table_at, table, too_big, odd_size, bad_tables, good_table, snapshots, snapshots_at}
 use Rattle.qcow2_spec.specs.Guest.{reach}
 use Rattle.qcow2_spec.specs.Opened.{geometry}
 use Rattle.qcow2_spec.specs.declared.Geometry.{Geometry}
-use Rattle.qcow2_spec.specs.declared.Judged.{Judged}
-use Rattle.qcow2_spec.specs.declared.Judged.TheVariants.{Refused}
 use Rattle.qcow2_limits.specs.Limits.{oversize}
 use Rattle.qcow2_fields.specs.Fields.{Read}
 use Rattle.qcow2_tables.specs.Placing.{misplaced, misplaced_tables}
@@ -68,7 +67,7 @@ unfolding geometry cluster_size
 snapshots-told g s e = rw e (refl, (refl, refl))
 
 -- a number that is given
-pub refused_by : (k : ℕ) (a : Judged) → (k ≡ 0 → ⊥) → Refused k ≡ unless k Refused a
+pub refused_by : (k : ℕ) (a : Result Geometry ℕ) → (k ≡ 0 → ⊥) → Err k ≡ unless k Err a
 refused_by zero a h = absurd (h refl)
 refused_by (suc k) a h = refl
 

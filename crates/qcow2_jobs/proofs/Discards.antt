@@ -1,5 +1,5 @@
 -- What a discard is found to be. Assumes nothing.
-use Rattle.std.specs.Prelude.{if◌then◌else◌}
+use Rattle.std.specs.Prelude.{if◌then◌else◌, Err, Ok, Result, Option, Some, None}
 use Prim.Native.Nat.{ℕ, ◌+◌, ◌-◌, ◌/◌, ◌^◌, ◌≤◌}
 use mathlib.Core.Path.{◌≡◌, sym, ◌∙◌}
 use mathlib.Core.Bool.{Bool, true, false, ◌&&◌}
@@ -16,11 +16,10 @@ use Rattle.qcow2_spec.specs.Store.{cleared_entry, discard_slot, discard_way}
 use Rattle.qcow2_spec.specs.Opened.{Opened}
 use Rattle.qcow2_spec.specs.declared.Geometry.{Geometry}
 use Rattle.qcow2_spec.specs.declared.Way.{Way}
-use Rattle.qcow2_spec.specs.declared.Way.TheVariants.{Bad, NoTable, Slot}
+use Rattle.qcow2_spec.specs.declared.Way.TheVariants.{NoTable, Slot}
 use Rattle.qcow2_jobs.specs.Jobs.{Releases}
+use Rattle.qcow2_jobs.specs.declared.releasing.Freed.{Freed}
 use Rattle.qcow2_jobs.specs.declared.releasing.Freed.TheVariants.{Entry, Both}
-use Rattle.qcow2_jobs.specs.declared.releasing.Release.{Release}
-use Rattle.qcow2_jobs.specs.declared.releasing.Release.TheVariants.{Refuse, Nothing, Store}
 
 module _ (s : List ℕ) (m at x : ℕ) where
   -- cluster k's count is 0, or falls
@@ -28,10 +27,10 @@ module _ (s : List ℕ) (m at x : ℕ) where
     abbrev falling : Plan
     falling = if eqb (count_of s k) 0 then refused 16 else units (entry at x ∷ set_count s k (count_of s k - 1) ∷ [])
 
-    pub uncounted : count_of s k ≡ 0 → Releases m (Refuse 16) falling
+    pub uncounted : count_of s k ≡ 0 → Releases m (Err 16) falling
     uncounted z = record { same = rw (eq-eqb (count_of s k) 0 z); inside = tt }
 
-    pub falls : (r p n : ℕ) → 2 ^ r ≡ width s → p ≡ count_at s k → n ≡ count_of s k → (n ≡ 0 → ⊥) → at + 8 ≤ m → Inside r m p → Releases m (Store (Both at x r p (n - 1))) falling
+    pub falls : (r p n : ℕ) → 2 ^ r ≡ width s → p ≡ count_at s k → n ≡ count_of s k → (n ≡ 0 → ⊥) → at + 8 ≤ m → Inside r m p → Releases m (Ok (Some (Both at x r p (n - 1)))) falling
     unfolding set_count
     falls r p n w f c z a b = record { same = rw (← c, ne_eqb n 0 z, ← f, w); inside = (a, b) }
 
@@ -46,12 +45,12 @@ lacks_is g s o t e = rw (e, o.is-backed, o.is-version)
 
 -- the entry e at a place: there is no zero mark to leave; it is cleared already, without a place, or with one
 module _ (s : List ℕ) (m at e : ℕ) where
-  pub markless : (backed s && eqb (version s) 2) ≡ true → Releases m (Refuse 20) (discard_way s (Slot at e))
+  pub markless : (backed s && eqb (version s) 2) ≡ true → Releases m (Err 20) (discard_way s (Ok (Slot at e)))
   unfolding discard_way
   markless b = record { same = rw b; inside = tt }
 
   module _ (b : (backed s && eqb (version s) 2) ≡ false) (x : ℕ) (q : x ≡ cleared_entry s) where
-    pub idle : e ≡ x → Releases m Nothing (discard_way s (Slot at e))
+    pub idle : e ≡ x → Releases m (Ok None) (discard_way s (Ok (Slot at e)))
     unfolding discard_way discard_slot
     idle z = record { same = rw (b, eq-eqb e (cleared_entry s) (z ∙ q)); inside = tt }
 
@@ -59,29 +58,25 @@ module _ (s : List ℕ) (m at e : ℕ) where
       apart : eqb e (cleared_entry s) ≡ false
       apart = ne_eqb e (cleared_entry s) (λ f. z (f ∙ sym q))
 
-      pub emptied : place e ≡ 0 → at + 8 ≤ m → Releases m (Store (Entry at x)) (discard_way s (Slot at e))
+      pub emptied : place e ≡ 0 → at + 8 ≤ m → Releases m (Ok (Some (Entry at x))) (discard_way s (Ok (Slot at e)))
       unfolding discard_way discard_slot
       emptied p h = record { same = rw (b, apart, eq-eqb (place e) 0 p, q); inside = h }
 
-      pub given_up : (r : Release) (k : ℕ) → (place e ≡ 0 → ⊥) → k ≡ place e / cluster_size s → Releases m r (falling s m at x k) → Releases m r (discard_way s (Slot at e))
+      pub given_up : (r : Result (Option Freed) ℕ) (k : ℕ) → (place e ≡ 0 → ⊥) → k ≡ place e / cluster_size s → Releases m r (falling s m at x k) → Releases m r (discard_way s (Ok (Slot at e)))
       unfolding discard_way discard_slot
       given_up r k p f h = record { same = rw (b, apart, ne_eqb (place e) 0 p, ← f, ← q) h.same; inside = h.inside }
 
 -- there is no L2 table
 module _ (g : Geometry) (s : List ℕ) (o : Opened g s) (m : ℕ) where
-  pub tableless : g.backed ≡ true → Releases m (Refuse 20) (discard_way s NoTable)
+  pub tableless : g.backed ≡ true → Releases m (Err 20) (discard_way s (Ok NoTable))
   unfolding discard_way
   tableless h = record { same = rw (← o.is-backed, h); inside = tt }
 
-  pub nothing : g.backed ≡ false → Releases m Nothing (discard_way s NoTable)
+  pub nothing : g.backed ≡ false → Releases m (Ok None) (discard_way s (Ok NoTable))
   unfolding discard_way
   nothing h = record { same = rw (← o.is-backed, h); inside = tt }
 
 -- by the way
 module _ (s : List ℕ) (m : ℕ) (w : Way) where
-  pub discard-bad : (k : ℕ) → w ≡ Bad k → Releases m (Refuse k) (discard_way s w)
-  unfolding discard_way
-  discard-bad k q = record { same = rw q; inside = tt }
-
-  pub discard_as : (r : Release) (v : Way) → w ≡ v → Releases m r (discard_way s v) → Releases m r (discard_way s w)
+  pub discard_as : (r : Result (Option Freed) ℕ) (v : Way) → w ≡ v → Releases m r (discard_way s (Ok v)) → Releases m r (discard_way s (Ok w))
   discard_as r v q h = record { same = rw q h.same; inside = h.inside }

@@ -1,4 +1,5 @@
 -- What a way that lies in the image gives. Assumes nothing.
+use Rattle.std.specs.Prelude.{Ok}
 use Prim.Native.Nat.{ℕ, ◌+◌, ◌/◌, ◌^◌, ◌≤◌, ◌<◌}
 use native.Mathlib.Nat.{div-lt_iff_lt-mul}
 use native.Mathlib.Omega.{arith}
@@ -28,9 +29,9 @@ placed_at g s a e o =
     let i : place e + 2 ^ g.bits ≤ length s = rw o.opened.is-cluster h.inside in
     record { inside = i; cluster = (div-lt_iff_lt-mul (pow_pos g.bits)).1 (omega (arith, o.opened.whole, pow_pos g.bits)) }
 
-module _ (g : Geometry) (s : List ℕ) (w : Way) (x : ℕ) (r : Ready g s w x) where
+module _ (g : Geometry) (s : List ℕ) (w : Way) (x : ℕ) (r : Ready g s (Ok w) x) where
   pub ready-slot : (a e : ℕ) → w ≡ Slot a e → Slotted g s a e
-  ready-slot a e q = subst (λ (y : Way). Ready g s y x) q r
+  ready-slot a e q = subst (λ (y : Way). Ready g s (Ok y) x) q r
 
   pub ready-none : w ≡ NoTable → l1_entry_at s 0 x + 8 ≤ length s
-  ready-none q = subst (λ (y : Way). Ready g s y x) q r
+  ready-none q = subst (λ (y : Way). Ready g s (Ok y) x) q r

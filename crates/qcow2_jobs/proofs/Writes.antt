@@ -1,4 +1,5 @@
 -- What a write is found to be. Assumes nothing.
+use Rattle.std.specs.Prelude.{Err, Ok, Result}
 use Prim.Native.Nat.{ℕ, ◌+◌, ◌-◌, ◌*◌, ◌^◌, ◌≤◌, ◌<◌}
 use native.Mathlib.Nat.{mod-lt}
 use native.Mathlib.Omega.{arith}
@@ -19,14 +20,13 @@ use Rattle.qcow2_spec.specs.Opened.{Opened}
 use Rattle.qcow2_spec.specs.Ready.{Slotted}
 use Rattle.qcow2_spec.specs.declared.Geometry.{Geometry}
 use Rattle.qcow2_spec.specs.declared.Way.{Way}
-use Rattle.qcow2_spec.specs.declared.Way.TheVariants.{Bad, NoTable, Slot}
+use Rattle.qcow2_spec.specs.declared.Way.TheVariants.{NoTable, Slot}
 use Rattle.qcow2_spec.proofs.Facts.{e_pos}
 use Rattle.qcow2_put.specs.Links.{Linked, places, table_units}
 use Rattle.qcow2_jobs.specs.Jobs.{Decides}
 use Rattle.qcow2_put.specs.declared.linking.Places.{Places}
+use Rattle.qcow2_jobs.specs.declared.finding.Job.{Job}
 use Rattle.qcow2_jobs.specs.declared.finding.Job.TheVariants.{Bytes, Marked, New, Table}
-use Rattle.qcow2_jobs.specs.declared.finding.Decision.{Decision}
-use Rattle.qcow2_jobs.specs.declared.finding.Decision.TheVariants.{Refuse, Store}
 use Rattle.qcow2_counts.proofs.Sizes.{sizes, inside-at}
 use Rattle.qcow2_jobs.proofs.Slots.{placed_at}
 
@@ -48,24 +48,24 @@ free-zero s i k e h =
 module _ (g : Geometry) (s : List ℕ) (o : Opened g s) (x : ℕ) where
   -- a new cluster k for guest cluster x, whose entry e stands at a place, or none
   module _ (at k e : ℕ) where
-    pub full : g.clusters ≤ k → Decides s (2 ^ g.bits) x (Refuse 14) (λ b i d. write_new s at k (new_bytes b s x e i d))
+    pub full : g.clusters ≤ k → Decides s (2 ^ g.bits) x (Err 14) (λ b i d. write_new s at k (new_bytes b s x e i d))
     unfolding write_new
     full h = record { same = λ b i d. rw (le-leb (clusters s) k (rw o.is-clusters at h)); inside = tt; fresh = tt }
 
     pub newly : (m : Bool) (n c : ℕ) → m ≡ zero_mark e → k < g.clusters → count_of s k ≡ 0 → at + 8 ≤ length s → n ≡ count_at s k → Inside g.order (length s) n → c ≡ 2 ^ g.bits
-        → Decides s (2 ^ g.bits) x (Store (New m g.order n at (k * c))) (λ b i d. write_new s at k (new_bytes b s x e i d))
+        → Decides s (2 ^ g.bits) x (Ok (New m g.order n at (k * c))) (λ b i d. write_new s at k (new_bytes b s x e i d))
     unfolding write_new new_bytes allot set_count count_of
     newly m n c q h z a f i l =
         record { same = λ b j d. rw (lt-leb (clusters s) k (rw o.is-clusters at h), q, f, l, o.is-cluster, o.is-width); inside = (i, (a, rw (← l) (inside-at g s o k c h l))); fresh = rw (f, o.is-width) z }
 
   -- a new L2 table t and a new cluster k, or none
   module _ (t k : ℕ) where
-    pub full-table : g.clusters ≤ k → Decides s (2 ^ g.bits) x (Refuse 14) (λ b i d. write_table s x t k (splice (backing_cluster b s x) i d))
+    pub full-table : g.clusters ≤ k → Decides s (2 ^ g.bits) x (Err 14) (λ b i d. write_table s x t k (splice (backing_cluster b s x) i d))
     unfolding write_table
     full-table h = record { same = λ b i d. rw (le-leb (clusters s) k (rw o.is-clusters at h)); inside = tt; fresh = tt }
 
     pub tabled : (p : Places) → k < g.clusters → count_of s t ≡ 0 → count_of s k ≡ 0 → p ≡ places s x t k → Linked (length s) p (2 ^ g.bits)
-        → Decides s (2 ^ g.bits) x (Store (Table p)) (λ b i d. write_table s x t k (splice (backing_cluster b s x) i d))
+        → Decides s (2 ^ g.bits) x (Ok (Table p)) (λ b i d. write_table s x t k (splice (backing_cluster b s x) i d))
     unfolding write_table table_units allot set_count places width count_of
     tabled p h y z e l =
         record {
@@ -76,32 +76,28 @@ module _ (g : Geometry) (s : List ℕ) (o : Opened g s) (x : ℕ) where
 
 -- the entry e of guest cluster x stands at a place
 module _ (g : Geometry) (s : List ℕ) (at e : ℕ) (o : Slotted g s at e) (x : ℕ) where
-  pub slot_new : (r : Decision) → place e ≡ 0 → Decides s (2 ^ g.bits) x r (λ b i d. write_new s at (free_from s 0) (new_bytes b s x e i d))
+  pub slot_new : (r : Result Job ℕ) → place e ≡ 0 → Decides s (2 ^ g.bits) x r (λ b i d. write_new s at (free_from s 0) (new_bytes b s x e i d))
       → Decides s (2 ^ g.bits) x r (λ b. write_slot b s x at e)
   unfolding write_slot
   slot_new r z h = record { same = λ b i d. rw (eq-eqb (place e) 0 z) (h.same b i d); inside = h.inside; fresh = h.fresh }
 
   module _ (p : ℕ) (f : p ≡ place e) (z : p ≡ 0 → ⊥) where
-    pub slot-marked : zero_mark e ≡ true → Decides s (2 ^ g.bits) x (Store (Marked at p)) (λ b. write_slot b s x at e)
+    pub slot-marked : zero_mark e ≡ true → Decides s (2 ^ g.bits) x (Ok (Marked at p)) (λ b. write_slot b s x at e)
     unfolding write_slot
     slot-marked m =
         record { same = λ b i d. rw (ne_eqb (place e) 0 (λ q. z (f ∙ q)), m, f, o.opened.is-cluster); inside = (o.inside, rw f (placed_at g s at e o).inside); fresh = tt }
 
-    pub slot-bytes : zero_mark e ≡ false → Decides s (2 ^ g.bits) x (Store (Bytes p)) (λ b. write_slot b s x at e)
+    pub slot-bytes : zero_mark e ≡ false → Decides s (2 ^ g.bits) x (Ok (Bytes p)) (λ b. write_slot b s x at e)
     unfolding write_slot
     slot-bytes m = record { same = λ b i d. rw (ne_eqb (place e) 0 (λ q. z (f ∙ q)), m, f); inside = rw f (placed_at g s at e o).inside; fresh = tt }
 
 -- by the way w to guest cluster x
 module _ (s : List ℕ) (c : ℕ) (w : Way) (x : ℕ) where
-  pub write-bad : (k : ℕ) → w ≡ Bad k → Decides s c x (Refuse k) (λ b. write_way b s w x)
-  unfolding write_way
-  write-bad k q = record { same = λ b i d. rw q; inside = tt; fresh = tt }
-
-  pub write-none : (r : Decision) → w ≡ NoTable → Decides s c x r (λ b i d. write_table s x (free_from s 0) (free_from s (free_from s 0 + 1)) (splice (backing_cluster b s x) i d))
-      → Decides s c x r (λ b. write_way b s w x)
+  pub write-none : (r : Result Job ℕ) → w ≡ NoTable → Decides s c x r (λ b i d. write_table s x (free_from s 0) (free_from s (free_from s 0 + 1)) (splice (backing_cluster b s x) i d))
+      → Decides s c x r (λ b. write_way b s (Ok w) x)
   unfolding write_way
   write-none r q h = record { same = λ b i d. rw q (h.same b i d); inside = h.inside; fresh = h.fresh }
 
-  pub write-there : (r : Decision) (p e : ℕ) → w ≡ Slot p e → Decides s c x r (λ b. write_slot b s x p e) → Decides s c x r (λ b. write_way b s w x)
+  pub write-there : (r : Result Job ℕ) (p e : ℕ) → w ≡ Slot p e → Decides s c x r (λ b. write_slot b s x p e) → Decides s c x r (λ b. write_way b s (Ok w) x)
   unfolding write_way
   write-there r p e q h = record { same = λ b i d. rw q (h.same b i d); inside = h.inside; fresh = h.fresh }

@@ -1,5 +1,5 @@
 // What a write is to store, once the way is found: every place and value, worked out from the image before the first store.
-ghost use Rattle.std.specs.Prelude.{◌≡◌, ℕ, ◌+◌, ◌^◌, ◌≤◌, ◌<◌, length};
+ghost use Rattle.std.specs.Prelude.{◌≡◌, ℕ, ◌+◌, ◌^◌, ◌≤◌, ◌<◌, length, Ok};
 ghost use Rattle.endian.specs.Big.{splice};
 ghost use Rattle.qcow2_spec.specs.Counts.{free_from};
 ghost use Rattle.qcow2_spec.specs.Guest.{l1_entry_at};
@@ -10,6 +10,7 @@ ghost use Rattle.qcow2_put.specs.Links.{Linked, places};
 ghost use Rattle.qcow2_spec.specs.Ready.{Slotted, Ready};
 
 use qcow2_put::linking::Places;
+use qcow2_spec::refusal::{Cause, Refusal};
 use qcow2_spec::{Geometry, Way};
 
 // Bytes into the cluster at a place; a whole cluster at a place and its entry's mark, given as entry and place; a new cluster, given as
@@ -22,21 +23,16 @@ pub enum Job {
     Table(Places),
 }
 
-// A number, or what is to be stored.
-#[derive(Clone, Copy)]
-pub enum Decision {
-    Refuse(u8),
-    Store(Job),
-}
+// Each of these finds what is to be stored, or why nothing can be.
 
 // A write into a cluster whose entry e has no place yet.
-fn find_new(image: &[u8], g: Geometry, entry_at: usize, e: u64) -> Decision
+fn find_new(image: &[u8], g: Geometry, entry_at: usize, e: u64) -> Result<Job, Refusal>
     requires { Opened g image.now × (entry_at + 8 ≤ length image.now) }
     ensures { (guest : ℕ) → Decides image.now (2 ^ g.bits) guest result (λ b o d. write_new image.now entry_at (free_from image.now 0) (new_bytes b image.now guest e o d)) }
 {
     let k = qcow2_free::free_from(image, g, 0);
     if g.clusters <= k {
-        return Decision::Refuse(14);
+        return Err(Cause::NoRoom.into());
     }
     let count_at = qcow2_counts::count_at(image, g, k);
     let job = Job::New(
@@ -46,11 +42,11 @@ fn find_new(image: &[u8], g: Geometry, entry_at: usize, e: u64) -> Decision
         entry_at,
         k * qcow2_counts::bytes_of(g.bits),
     );
-    Decision::Store(job)
+    Ok(job)
 }
 
 // A write where the entry e stands at a place.
-fn find_slot(image: &[u8], g: Geometry, entry_at: usize, e: u64) -> Decision
+fn find_slot(image: &[u8], g: Geometry, entry_at: usize, e: u64) -> Result<Job, Refusal>
     requires { Slotted g image.now entry_at e }
     ensures { (guest : ℕ) → Decides image.now (2 ^ g.bits) guest result (λ b. write_slot b image.now guest entry_at e) }
 {
@@ -59,11 +55,9 @@ fn find_slot(image: &[u8], g: Geometry, entry_at: usize, e: u64) -> Decision
         return find_new(image, g, entry_at, e);
     }
     if qcow2_entry::has_mark(e) {
-        let job = Job::Marked(entry_at, p);
-        return Decision::Store(job);
+        return Ok(Job::Marked(entry_at, p));
     }
-    let job = Job::Bytes(p);
-    Decision::Store(job)
+    Ok(Job::Bytes(p))
 }
 
 // The places where cluster t is to be the L2 table of a guest cluster and k its data.
@@ -85,26 +79,24 @@ fn find_places(image: &[u8], g: Geometry, guest: u64, t: usize, k: usize) -> Pla
 }
 
 // A write where there is no L2 table.
-fn find_table(image: &[u8], g: Geometry, guest: u64) -> Decision
+fn find_table(image: &[u8], g: Geometry, guest: u64) -> Result<Job, Refusal>
     requires { Active g image.now × (l1_entry_at image.now 0 guest + 8 ≤ length image.now) }
     ensures { Decides image.now (2 ^ g.bits) guest result (λ b o d. write_table image.now guest (free_from image.now 0) (free_from image.now (free_from image.now 0 + 1)) (splice (backing_cluster b image.now guest) o d)) }
 {
     let t = qcow2_free::free_from(image, g, 0);
     let k = qcow2_free::free_from(image, g, t + 1);
     if g.clusters <= k {
-        return Decision::Refuse(14);
+        return Err(Cause::NoRoom.into());
     }
-    let job = Job::Table(find_places(image, g, guest, t, k));
-    Decision::Store(job)
+    Ok(Job::Table(find_places(image, g, guest, t, k)))
 }
 
 // A write, with the way to the guest cluster.
-pub fn find_job(image: &[u8], g: Geometry, way: Way, guest: u64) -> Decision
-    requires { Active g image.now × Ready g image.now way guest }
-    ensures { Decides image.now (2 ^ g.bits) guest result (λ b. write_way b image.now way guest) }
+pub fn find_job(image: &[u8], g: Geometry, way: Way, guest: u64) -> Result<Job, Refusal>
+    requires { Active g image.now × Ready g image.now (Ok way) guest }
+    ensures { Decides image.now (2 ^ g.bits) guest result (λ b. write_way b image.now (Ok way) guest) }
 {
     match way {
-        Way::Bad(k) => Decision::Refuse(k),
         Way::NoTable => find_table(image, g, guest),
         Way::Slot(at, e) => find_slot(image, g, at, e),
     }

@@ -1,13 +1,11 @@
 -- The state of a check as bytes that a caller keeps, any bytes: seven big-endian numbers of 8 bytes; and a portion's answer as numbers for C.
 -- Assumes nothing.
-use Rattle.std.specs.Prelude.{ℕ, ◌%◌, ◌^◌, ◌<◌, ◌≡◌, Bool, true, false, ◌||◌, List, ◌++◌, eqb, if◌then◌else◌}
+use Rattle.std.specs.Prelude.{ℕ, ◌%◌, ◌^◌, ◌<◌, ◌≡◌, Bool, true, false, ◌||◌, List, ◌++◌, eqb, if◌then◌else◌, Err, Ok, Result, is_err, None, Option, Some}
 use Rattle.endian.specs.Big.{be64, bytes64}
 use Rattle.qcow2_spec.specs.declared.Verdict.{Verdict}
 use Rattle.qcow2_spec.specs.declared.Verdict.TheVariants.{Sound, Leaks, BadL1, BadL2, Shared, Short, MarkL1, MarkL2, Refused as NotChecked}
 use Rattle.qcow2_portion.specs.declared.CheckState.{CheckState}
 use Rattle.qcow2_portion.specs.declared.CheckState.TheVariants.{New, Going, Finished}
-use Rattle.qcow2_portion.specs.declared.Answer.{Answer}
-use Rattle.qcow2_portion.specs.declared.Answer.TheVariants.{Refused, More, Told}
 use Rattle.qcow2_portion.specs.declared.Portion.{Portion}
 use Rattle.qcow2_portion.specs.State.{portion}
 use Rattle.qcow2_codes.specs.Codes.{verdict_code, verdict_first, verdict_second, verdict_third}
@@ -70,10 +68,8 @@ is_finished (Going t i v) = false
 is_finished (Finished v) = true
 
 -- the answer is a number
-abbrev pub is_refused : Answer → Bool
-is_refused (Refused k) = true
-is_refused More = false
-is_refused (Told v) = false
+abbrev pub is_refused : Result (Option Verdict) ℕ → Bool
+is_refused r = is_err r
 
 -- the bytes after a portion: only one that was accepted, may take entries and gets an unfinished state changes them
 unfoldable pub kept_after : List ℕ → CheckState → (may : ℕ) → Portion → List ℕ
@@ -84,25 +80,25 @@ abbrev pub portion_of : (backing s state scratch : List ℕ) → (may : ℕ) →
 portion_of backing s state scratch may = portion backing s (state_of state) scratch may
 
 -- the answer as a number, and the values beside it
-abbrev pub answer_code : Answer → ℕ
-answer_code (Refused k) = k
-answer_code More = 1013
-answer_code (Told v) = verdict_code v
+abbrev pub answer_code : Result (Option Verdict) ℕ → ℕ
+answer_code (Err k) = k
+answer_code (Ok None) = 1013
+answer_code (Ok (Some v)) = verdict_code v
 
-abbrev pub answer_first : Answer → ℕ
-answer_first (Refused k) = 0
-answer_first More = 0
-answer_first (Told v) = verdict_first v
+abbrev pub answer_first : Result (Option Verdict) ℕ → ℕ
+answer_first (Err k) = 0
+answer_first (Ok None) = 0
+answer_first (Ok (Some v)) = verdict_first v
 
-abbrev pub answer_second : Answer → ℕ
-answer_second (Refused k) = 0
-answer_second More = 0
-answer_second (Told v) = verdict_second v
+abbrev pub answer_second : Result (Option Verdict) ℕ → ℕ
+answer_second (Err k) = 0
+answer_second (Ok None) = 0
+answer_second (Ok (Some v)) = verdict_second v
 
-abbrev pub answer_third : Answer → ℕ
-answer_third (Refused k) = 0
-answer_third More = 0
-answer_third (Told v) = verdict_third v
+abbrev pub answer_third : Result (Option Verdict) ℕ → ℕ
+answer_third (Err k) = 0
+answer_third (Ok None) = 0
+answer_third (Ok (Some v)) = verdict_third v
 
 -- the numbers of a verdict, and of a state, are what the code's types hold
 abbrev pub FitsVerdict : Verdict → Type 0

@@ -3,12 +3,13 @@
 
 ghost use Rattle.std.specs.Prelude.{◌≡◌, ◌||◌, ◌++◌, ◌≤◌, eqb, length};
 ghost use Rattle.endian.specs.Big.{bytes64, splice};
-ghost use Rattle.qcow2_kept.specs.Kept.{numbers_of, verdict_of, numbers_at, state_of, seven_bytes, state_bytes, is_finished, is_refused as refused_is, kept_after, answer_code, answer_first, answer_second, answer_third};
+ghost use Rattle.qcow2_kept.specs.Kept.{numbers_of, verdict_of, numbers_at, state_of, seven_bytes, state_bytes, is_finished, kept_after, answer_code, answer_first, answer_second, answer_third};
 
-use qcow2_portion::{Answer, CheckState, Portion};
+use qcow2_portion::{CheckState, Portion};
 use qcow2_spec::Verdict;
+use qcow2_spec::refusal::Refusal;
 
-// A verdict as numbers: its kind, and what it names.
+// A verdict as numbers: its kind, and what it names. The kind is a number, since a kept state's bytes hold it (`numbers_at`).
 #[derive(Clone, Copy)]
 pub struct Numbers {
     pub kind: u64,
@@ -203,16 +204,6 @@ fn store(bytes: &mut [u8], st: CheckState)
     }
 }
 
-fn is_refused(a: Answer) -> bool
-    ensures { result ≡ refused_is a }
-{
-    match a {
-        Answer::Refused(_) => true,
-        Answer::More => false,
-        Answer::Told(_) => false,
-    }
-}
-
 // Whether a portion changes nothing.
 fn is_idle(st: CheckState, may: usize) -> bool
     ensures { result ≡ (eqb may 0 || is_finished st) }
@@ -228,12 +219,11 @@ fn is_idle(st: CheckState, may: usize) -> bool
 }
 
 // The state after a portion, as bytes where it has changed.
-pub fn keep(bytes: &mut [u8], st: CheckState, may: usize, p: Portion)
+pub fn keep(bytes: &mut [u8], st: CheckState, may: usize, p: &Portion)
     requires { length bytes.old ≡ 56 }
-    ensures { bytes.new ≡ kept_after bytes.old st may p }
+    ensures { bytes.new ≡ kept_after bytes.old st may p.now }
 {
-    let a = p.answer;
-    if is_refused(a) {
+    if p.answer.is_err() {
         return;
     }
     if is_idle(st, may) {
@@ -244,22 +234,27 @@ pub fn keep(bytes: &mut [u8], st: CheckState, may: usize, p: Portion)
 }
 
 // The answer's code, with the values beside it.
-pub fn put_answer(a: Answer, first: &mut u64, second: &mut u64, third: &mut u64) -> u32
-    ensures { ((result ≡ answer_code a) × (first.new ≡ answer_first a)) × ((second.new ≡ answer_second a) × (third.new ≡ answer_third a)) }
+pub fn put_answer(
+    a: &Result<Option<Verdict>, Refusal>,
+    first: &mut u64,
+    second: &mut u64,
+    third: &mut u64,
+) -> u32
+    ensures { ((result ≡ answer_code a.now) × (first.new ≡ answer_first a.now)) × ((second.new ≡ answer_second a.now) × (third.new ≡ answer_third a.now)) }
 {
     match a {
-        Answer::Refused(k) => {
-            *first = 0;
-            *second = 0;
-            *third = 0;
-            k as u32
-        }
-        Answer::More => {
+        Ok(Some(v)) => qcow2_codes::put_verdict(*v, first, second, third),
+        Ok(None) => {
             *first = 0;
             *second = 0;
             *third = 0;
             1013
         }
-        Answer::Told(v) => qcow2_codes::put_verdict(v, first, second, third),
+        Err(e) => {
+            *first = 0;
+            *second = 0;
+            *third = 0;
+            e.number() as u32
+        }
     }
 }

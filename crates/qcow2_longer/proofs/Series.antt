@@ -1,5 +1,6 @@
 -- An image is made longer: the theorem about every series of runs of extending, each cut anywhere or not at all, and of other calls between them.
 -- Assumes nothing.
+use Rattle.std.specs.Prelude.{Ok, Result}
 use Prim.Native.Nat.{ℕ, ◌≤◌, ◌<◌}
 use native.Mathlib.Decide.{dec_lt}
 use native.Mathlib.Omega.{arith}
@@ -13,8 +14,8 @@ use borrow.Author.Tests.{leb-true, leb-false, eqb-true}
 use Rattle.choice.proofs.Tests.{if_no, if_elim, two_ways}
 use Rattle.units.specs.Units.{UnitStore, entry, apply_all}
 use Rattle.units.specs.Plan.{Plan, refused, units, plan_units, ended, outcome}
-use Rattle.units.specs.declared.Outcome.{Outcome}
-use Rattle.units.specs.declared.Outcome.TheVariants.{Finished, Stopped}
+use Rattle.units.specs.declared.Ended.{Ended as Ending}
+use Rattle.units.specs.declared.Ended.TheVariants.{Finished, Stopped}
 use Rattle.cuts.proofs.Cell.{mem}
 use Rattle.cuts.proofs.Meta.{Sound}
 use Rattle.qcow2_spec.specs.Header.{autoclear_at, autoclear, cluster_size, blocks, header_number, some_lent, judge_lent, judge}
@@ -159,7 +160,7 @@ module _ (backing s : List ℕ) (old : ℕ) (bb : Bytes backing) (by : Bytes s) 
   unfolding outcome ended EndsWith
   run_ends t h d a bytes =
       subst (λ (p : Plan). EndsWith (outcome p a) (rest old u)) (sym (plan_units_lem t old (accepted t h)))
-      (if_elim (λ (o : Outcome). EndsWith o (rest old u)) (leb (length (rest old t)) a) (Finished (length (rest old t))) (Stopped a)
+      (if_elim (λ (o : Ending). EndsWith (Ok o) (rest old u)) (leb (length (rest old t)) a) (Finished (length (rest old t))) (Stopped a)
       (λ q. rest-none r z.between (accepted u z) (turn_finished r h.between (accepted t h) a bytes (leb-true _ _ q)))
       (λ q. rest_some r z.between (accepted u z) (turn_stopped r h.between (accepted t h) a bytes (leb-false _ _ q))))
     where

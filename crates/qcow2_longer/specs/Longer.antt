@@ -1,11 +1,11 @@
 -- What holds of an image that is made longer: paper 02, T-13. A statement beside demand 3, which goes on from the longer image.
 -- Proved in proofs/Series.antt.
 -- Assumes nothing.
-use Rattle.std.specs.Prelude.{ℕ, ◌*◌, ◌≤◌, ◌<◌, ◌≡◌, ◌≢◌, Bool, false, List, [], ◌∷◌, length, take}
+use Rattle.std.specs.Prelude.{ℕ, ◌*◌, ◌≤◌, ◌<◌, ◌≡◌, ◌≢◌, Bool, false, List, [], ◌∷◌, length, take, Err, Ok, Result}
 use Rattle.units.specs.Units.{UnitStore, byte, entry, count, apply_all}
 use Rattle.units.specs.Plan.{plan_units, outcome}
-use Rattle.units.specs.declared.Outcome.{Outcome}
-use Rattle.units.specs.declared.Outcome.TheVariants.{Finished, Stopped, Refused}
+use Rattle.units.specs.declared.Ended.{Ended as Ending}
+use Rattle.units.specs.declared.Ended.TheVariants.{Finished, Stopped}
 use Rattle.qcow2_spec.specs.Header.{clusters, block_at, header_number, judge_lent}
 use Rattle.qcow2_spec.specs.Guest.{guest_byte, read_number, read_into}
 use Rattle.qcow2_spec.specs.Check.{check}
@@ -36,7 +36,7 @@ pub record Waiting (backing t : List ℕ) : Type 0 where
   pub number : (lent : Bool) → judge_lent lent t ≡ 10
   pub reads : (k x len : ℕ) → read_number backing t k x len ≡ 10
   pub checks : (scratch : ℕ) → check backing t scratch ≡ NotChecked 10
-  pub answers : (c : Call) → ends backing t c ≡ Refused 10
+  pub answers : (c : Call) → ends backing t c ≡ Err 10
   pub unchanged : (c : Call) (bytes : List Bool) → left_rough backing t c bytes ≡ t
 
 -- t is sound or leaking; it has the bytes that one uncut run gives; every read, of the disk or of a snapshot, answers and gives what it did on the
@@ -59,10 +59,10 @@ pub record Taken (backing s : List ℕ) (old : ℕ) (t : List ℕ) : Type 0 wher
   pub stage : Stage backing s old t (rest old t)
 
 -- how a turn on t ended: a run that is finished leaves nothing to store, one that is stopped leaves some
-unfoldable pub EndsWith : Outcome → (left : List UnitStore) → Type 0
-EndsWith (Finished u) left = left ≡ []
-EndsWith (Stopped u) left = left ≢ []
-EndsWith (Refused k) left = ⊥
+unfoldable pub EndsWith : Result Ending ℕ → (left : List UnitStore) → Type 0
+EndsWith (Ok (Finished u)) left = left ≡ []
+EndsWith (Ok (Stopped u)) left = left ≢ []
+EndsWith (Err k) left = ⊥
 
 -- and nothing is stored while an autoclear bit stands
 unfoldable pub Ended : (backing : List ℕ) → (old : ℕ) → (t : List ℕ) → Turn → Type 0

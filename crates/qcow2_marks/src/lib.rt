@@ -38,15 +38,12 @@ fn each_right(table: &[u8], scratch: &[u8], i: usize, bits: u32) -> usize
     ensures { ((i ≤ result) × (result ≤ i + 64)) × Rights (2 ^ bits) scratch.now table.now i result }
 {
     let end = i + 64;
-    let mut j = i;
-    while j < end {
-        if mark_right(endian::load64(table, 8 * j), scratch, bits) {
-            j += 1;
-        } else {
+    for j in i..end {
+        if !mark_right(endian::load64(table, 8 * j), scratch, bits) {
             return j;
         }
     }
-    j
+    end
 }
 
 // The same. Zeros are passed over all at once.
@@ -66,16 +63,15 @@ fn front_right(table: &[u8], scratch: &[u8], bits: u32) -> usize
     requires { ((9 ≤ bits) × (bits ≤ most_bits)) × AllFair (2 ^ bits) (length scratch.now / 2) table.now }
     ensures { (result ≤ length table.now / 8) × Rights (2 ^ bits) scratch.now table.now 0 result }
 {
-    let per = table.len() / 8;
-    let mut j = 0;
-    while 64 <= per - j {
+    let groups = table.len() / 512;
+    for d in 0..groups {
+        let j = 64 * d;
         let k = group_right(table, scratch, j, bits);
         if k < j + 64 {
             return k;
         }
-        j = k;
     }
-    j
+    64 * groups
 }
 
 // Whether all marks of a good L2 table at a place are right.
@@ -110,13 +106,10 @@ pub fn rows_right(image: &[u8], scratch: &[u8], g: Geometry) -> usize
     ensures { (result ≤ g.l1size) × UnharmedTo image.now (wrong_marks image.now (twos scratch.now 0 g.clusters)) g.root result }
 {
     let rows = g.l1size;
-    let mut i = 0;
-    while i < rows {
-        if row_right(image, scratch, i, g) {
-            i += 1;
-        } else {
+    for i in 0..rows {
+        if !row_right(image, scratch, i, g) {
             return i;
         }
     }
-    i
+    rows
 }

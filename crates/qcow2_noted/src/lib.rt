@@ -12,28 +12,24 @@ pub struct Notes {
     pub missing: usize,
 }
 
-// Marks for as many entries as the longest image needs. It is a function so that its length is all that is known of it.
-pub fn room() -> [u8; 32768]
-    ensures { 32768 ≡ length result }
-{
-    [0; 32768]
-}
+// Marks for the entries of the longest image.
+pub const MOST_MARKS: usize = 32768;
 
-// The same for few entries: a large array takes longer to clear than a small image to judge.
-pub fn small_room() -> [u8; 256]
-    ensures { 256 ≡ length result }
+// Marks for few entries: a large array takes longer to clear than a small image to judge.
+pub const FEW_MARKS: usize = 256;
+
+// Marks for N entries. It is a function so that its length is all that is known of it.
+pub fn room<const N: usize>() -> [u8; N]
+    ensures { N ≡ length result }
 {
-    [0; 256]
+    [0; N]
 }
 
 // The mark of an entry: 1 where it is 0.
 fn mark_of(e: u64) -> u8
     ensures { result ≡ mark_of e }
 {
-    if e == 0 {
-        return 1;
-    }
-    0
+    u8::from(e == 0)
 }
 
 // Passes over entries that are not 0.
@@ -41,14 +37,12 @@ pub fn skip(image: &[u8], table: usize, from: usize, end: usize) -> usize
     requires { ((table + 8 * end ≤ length image.now) × (length image.now ≤ 4294967296)) × (from ≤ end) }
     ensures { (result ≤ end) × (first (unmade image.now table) from (end - from) ≡ first (unmade image.now table) result (end - result)) }
 {
-    let mut i = from;
-    while i < end {
+    for i in from..end {
         if endian::load64(image, table + 8 * i) == 0 {
             return i;
         }
-        i += 1;
     }
-    i
+    end
 }
 
 // Marks the len entries at a place, and stops once more than most are 0: what comes after them is of no account then.
@@ -57,15 +51,13 @@ pub fn note(image: &[u8], at: usize, len: usize, most: usize, marks: &mut [u8]) 
     ensures { Noted image.now at len most marks.new result }
 {
     let mut missing = 0;
-    let mut k = 0;
-    while k < len {
+    for k in 0..len {
         if most < missing {
             return Notes { seen: k, missing };
         }
         let m = mark_of(endian::load64(image, at + 8 * k));
         marks[k] = m;
         missing += m as usize;
-        k += 1;
     }
-    Notes { seen: k, missing }
+    Notes { seen: len, missing }
 }

@@ -1,8 +1,9 @@
 -- The plan of a write and of a discard by the request, once the header is accepted. Assumes nothing.
+use Rattle.std.specs.Prelude.{Result, Err}
 use Prim.Native.Nat.{ℕ, ◌+◌, ◌-◌, ◌*◌, ◌/◌, ◌%◌, ◌^◌, ◌≤◌, ◌<◌}
 use native.Mathlib.Nat.{div-add-mod', mod-lt, mul-le-mul_right}
 use native.Mathlib.Omega.{arith}
-use mathlib.Core.Path.{◌≡◌}
+use mathlib.Core.Path.{◌≡◌, refl}
 use mathlib.Core.Bool.{true, false, ◌||◌}
 use mathlib.Core.List.{List, []}
 use borrow.Author.Tests.{ltb-false, le-leb, lt-leb, eq-eqb, ne_eqb}
@@ -60,10 +61,15 @@ module _ (g : Geometry) (s : List ℕ) (o : Active g s) where
       unfolding write_list clearing
       write-none h z = rw (e, ← past_is, h, eq-eqb len 0 z)
 
-      pub write-some : (y q : ℕ) (v : Way) → past_write g.size (2 ^ g.bits) x len ≡ false → (len ≡ 0 → ⊥) → y ≡ x / 2 ^ g.bits → q ≡ x % 2 ^ g.bits → v ≡ own_way s y
+      pub write-some : (y q : ℕ) (v : Result Way ℕ) → past_write g.size (2 ^ g.bits) x len ≡ false → (len ≡ 0 → ⊥) → y ≡ x / 2 ^ g.bits → q ≡ x % 2 ^ g.bits → v ≡ own_way s y
           → clearing s (write_list backing s x d) ≡ clearing s (write_way backing s v y q d)
       unfolding write_list
       write-some y q v h n f r k = rw (e, ← past_is, h, ne_eqb len 0 n, ← o.0.is-cluster, ← f, ← r, ← k)
+
+      -- the way is refused with k
+      pub write-refused : (y k : ℕ) → past_write g.size (2 ^ g.bits) x len ≡ false → (len ≡ 0 → ⊥) → y ≡ x / 2 ^ g.bits → Err k ≡ own_way s y → clearing s (write_list backing s x d) ≡ refused k
+      unfolding write_way clearing
+      write-refused y k h n f q = write-some y _ (Err k) h n f refl q
 
   -- ---- a discard: the guest cluster starts inside the disk
   module _ (guest : ℕ) where
@@ -86,6 +92,10 @@ module _ (g : Geometry) (s : List ℕ) (o : Active g s) where
       pub has_row-cluster : guest / per_table s < root_size s 0
       has_row-cluster = rw o.1 at (reached-cluster g s o.0 guest (omega (arith, inside, o.0.is-size)))
 
-      pub discard-some : (v : Way) → v ≡ own_way s guest → clearing s (discard_list s guest) ≡ clearing s (discard_way s v)
+      pub discard-some : (v : Result Way ℕ) → v ≡ own_way s guest → clearing s (discard_list s guest) ≡ clearing s (discard_way s v)
       unfolding discard_list
       discard-some v k = rw (lt-leb (disk_size s) (guest * cluster_size s) (rw size at inside), ← k)
+
+      pub discard-refused : (k : ℕ) → Err k ≡ own_way s guest → clearing s (discard_list s guest) ≡ refused k
+      unfolding discard_way clearing
+      discard-refused k q = discard-some (Err k) q

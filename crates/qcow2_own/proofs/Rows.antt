@@ -1,5 +1,6 @@
 -- The way of a write or a discard by the test of its L1 entry.
 -- Assumes nothing.
+use Rattle.std.specs.Prelude.{Err}
 use Prim.Native.Nat.{ℕ, ◌/◌, ◌^◌, ◌<◌}
 use mathlib.Core.Path.{◌≡◌}
 use mathlib.Core.Bool.{true, false}
@@ -11,11 +12,10 @@ use Rattle.qcow2_spec.specs.Guest.{l1_entry, way}
 use Rattle.qcow2_spec.specs.Store.{own_slot, own_way}
 use Rattle.qcow2_spec.specs.Opened.{Active}
 use Rattle.qcow2_spec.specs.declared.Geometry.{Geometry}
-use Rattle.qcow2_spec.specs.declared.Way.TheVariants.{Bad}
 use Rattle.qcow2_own.specs.Common.{common_row}
 
 module _ (s : List ℕ) (guest : ℕ) where
-  pub own-common : common_row s guest ≡ true → Bad 22 ≡ own_way s guest
+  pub own-common : common_row s guest ≡ true → Err 22 ≡ own_way s guest
   unfolding common_row own_way
   own-common h = rw h
 

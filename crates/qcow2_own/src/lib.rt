@@ -1,7 +1,7 @@
 // What a write or a discard is asked for, and its way: what it changes must have no other reference.
 #![tactic(auto)]
 
-ghost use Rattle.std.specs.Prelude.{◌≡◌, ◌/◌, ◌^◌, ◌≤◌, ◌<◌};
+ghost use Rattle.std.specs.Prelude.{◌≡◌, ◌/◌, ◌^◌, ◌≤◌, ◌<◌, Ok};
 ghost use Rattle.choice.specs.Pick.{ceil_div};
 ghost use Rattle.qcow2_spec.specs.Header.{most_bits, most_reach, per_table, root_size};
 ghost use Rattle.qcow2_spec.specs.Store.{own_slot, own_way};
@@ -9,6 +9,7 @@ ghost use Rattle.qcow2_spec.specs.Opened.{Active};
 ghost use Rattle.qcow2_own.specs.Common.{common_row};
 ghost use Rattle.qcow2_own.specs.Past.{past_write};
 
+use qcow2_spec::refusal::{Cause, Refusal};
 use qcow2_spec::{Geometry, Way};
 
 // Whether len bytes at guest offset x run past the disk or past their guest cluster.
@@ -34,18 +35,17 @@ pub fn disk_clusters(size: u64, bits: u32) -> u64
     power::quotient(size + (power::power(bits) - 1), bits)
 }
 
-// The same way, or 22 where its entry has a place that others may refer to.
-fn own_slot(w: Way) -> Way
-    ensures { result ≡ own_slot w }
+// The same way, unless its entry has a place that others may refer to.
+fn own_slot(w: Way) -> Result<Way, Refusal>
+    ensures { result ≡ own_slot (Ok w) }
 {
     match w {
-        Way::Bad(k) => Way::Bad(k),
-        Way::NoTable => Way::NoTable,
+        Way::NoTable => Ok(Way::NoTable),
         Way::Slot(at, e) => {
             if qcow2_entry::is_common(e) {
-                return Way::Bad(22);
+                return Err(Cause::Common.into());
             }
-            Way::Slot(at, e)
+            Ok(Way::Slot(at, e))
         }
     }
 }
@@ -62,13 +62,13 @@ fn common_row(image: &[u8], g: Geometry, guest: u64) -> bool
     false
 }
 
-// The way to a guest cluster of the active table, or 22 where an entry on it has a place that others may refer to.
-pub fn own_way(image: &[u8], g: Geometry, guest: u64) -> Way
+// The way to a guest cluster of the active table, unless an entry on it has a place that others may refer to.
+pub fn own_way(image: &[u8], g: Geometry, guest: u64) -> Result<Way, Refusal>
     requires { Active g image.now × (guest / per_table image.now < root_size image.now 0) }
     ensures { result ≡ own_way image.now guest }
 {
     if common_row(image, g, guest) {
-        return Way::Bad(22);
+        return Err(Cause::Common.into());
     }
-    own_slot(qcow2_guest::way_to(image, g, guest))
+    own_slot(qcow2_guest::way_to(image, g, guest)?)
 }

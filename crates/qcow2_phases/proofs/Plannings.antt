@@ -1,5 +1,5 @@
 -- What planning a call answers and leaves, by the plan. Assumes nothing.
-use Rattle.std.specs.Prelude.{if◌then◌else◌}
+use Rattle.std.specs.Prelude.{if◌then◌else◌, Err, Ok, Result}
 use Prim.Native.Nat.{ℕ, ◌+◌, ◌*◌, ◌/◌, ◌≤◌}
 use native.Mathlib.Omega.{arith}
 use mathlib.Core.Path.{◌≡◌, refl, sym, ap, ◌∙◌}
@@ -16,7 +16,7 @@ use Rattle.qcow2_spec.specs.Steps.{Extent, extents, rows_of, step_rows, rows_put
 use Rattle.qcow2_batches.specs.Batch.{clash, in_phase, call_phase}
 use Rattle.qcow2_batches.specs.Rows.{rows_in, new_rows, must_end, answered, rows_after, rows_left, Planning}
 use Rattle.qcow2_batches.specs.declared.Planned.{Planned}
-use Rattle.qcow2_batches.specs.declared.Planned.TheVariants.{Refused, Ends, Rows}
+use Rattle.qcow2_batches.specs.declared.Planned.TheVariants.{Ends, Rows}
 use Rattle.qcow2_batches.proofs.Plain.{after-fits, new_in}
 use Rattle.qcow2_phases.specs.Ends.{torn, plan_of, Added}
 use Rattle.qcow2_phases.proofs.Meets.{clash_append, clash-left, clash-right}
@@ -48,6 +48,11 @@ module _ (k : ℕ) (rows new : List ℕ) where
 or_turn : (a b c : Bool) → (a || b || c) ≡ ((c || b) || a)
 or_turn a b c = or_assoc a b c ∙ or_comm a (b || c) ∙ ap (λ (d : Bool). d || a) (or_comm b c)
 
+-- an answer that is not refused, by a test
+ok_if : (x y : Planned) (b : Bool) → ◌≡◌ {A = Result Planned ℕ} (Ok (if b then x else y)) (if b then Ok x else Ok y)
+ok_if x y true = refl
+ok_if x y false = refl
+
 module _ (s : List ℕ) (us : List UnitStore) (k : ℕ) (out : List ℕ) where
   torn-is : 4 * k ≤ length out
       → torn (take (4 * k) out) (new_rows s (rows_in 1 k out) us) ≡ (clash (extents (call_phase 1 s (rows_in 1 k out) us) ++ rows_in 1 k out) (extents (call_phase 3 s (rows_in 1 k out) us)) || clash (extents (call_phase 1 s (rows_in 1 k out) us)) (rows_in 3 k out))
@@ -66,7 +71,7 @@ module _ (s : List ℕ) (us : List UnitStore) (k : ℕ) (out : List ℕ) where
     same-torn : k + n ≤ length out / 4 → torn (take (4 * k) now) (take (4 * n) (drop (4 * k) now)) ≡ (clash (extents (call_phase 1 s ready us) ++ ready) (extents (call_phase 3 s ready us)) || clash (extents (call_phase 1 s ready us)) (rows_in 3 k out))
     same-torn h = rw (a.left, held_after_lem k out (new_rows s ready us) (omega arith), own-after k out (new_rows s ready us) (omega arith) n a.many (omega arith)) (torn-is (omega arith))
 
-    same_answer : plan_of now k n ≡ answered s (units us) k out
+    same_answer : Ok (plan_of now k n) ≡ answered s (units us) k out
     unfolding plan_of answered must_end
     same_answer =
         let m : many_new ≡ n = omega (arith, a.many) in
@@ -74,18 +79,18 @@ module _ (s : List ℕ) (us : List UnitStore) (k : ℕ) (out : List ℕ) where
         rw (m, l) (go (ltb (length out / 4) (k + n)) refl)
       where
         go : (t : Bool) → ltb (length out / 4) (k + n) ≡ t
-            → (if t || torn (take (4 * k) now) (take (4 * n) (drop (4 * k) now)) then Ends else Rows (k + n))
-            ≡ (if t || clash (extents (call_phase 1 s ready us) ++ ready) (extents (call_phase 3 s ready us)) || clash (extents (call_phase 1 s ready us)) (rows_in 3 k out) then Ends else Rows (k + n))
+            → ◌≡◌ {A = Result Planned ℕ} (Ok (if t || torn (take (4 * k) now) (take (4 * n) (drop (4 * k) now)) then Ends else Rows (k + n)))
+            (if t || clash (extents (call_phase 1 s ready us) ++ ready) (extents (call_phase 3 s ready us)) || clash (extents (call_phase 1 s ready us)) (rows_in 3 k out) then Ok Ends else Ok (Rows (k + n)))
         go true e = refl
-        go false e = rw (same-torn (ltb-false _ _ e))
+        go false e = rw (same-torn (ltb-false _ _ e)) (ok_if _ _ _)
 
-    pub planning_units : (r : Planned) → r ≡ plan_of now k n → Planning s (units us) k out r now
+    pub planning_units : (r : Planned) → r ≡ plan_of now k n → Planning s (units us) k out (Ok r) now
     unfolding rows_left
-    planning_units r e = record { answer = e ∙ same_answer; left = a.left }
+    planning_units r e = record { answer = ap Ok e ∙ same_answer; left = a.left }
 
 -- ---- a refused call, and one that stores nothing
 module _ (s : List ℕ) (p : Plan) (k : ℕ) (out : List ℕ) where
-  pub planning_refused : (n : ℕ) → p ≡ refused n → Planning s p k out (Refused n) out
+  pub planning_refused : (n : ℕ) → p ≡ refused n → Planning s p k out (Err n) out
   unfolding answered rows_left
   planning_refused n e = rw e (record { answer = refl; left = refl })
 
@@ -93,6 +98,6 @@ module _ (s : List ℕ) (p : Plan) (k : ℕ) (out : List ℕ) where
   unfolding new_rows step_rows rows_of extents call_phase in_phase
   none_new ready = rw (take-nil, drop-nil)
 
-  pub planning_none : p ≡ units [] → (r : Planned) → r ≡ plan_of out k 0 → Planning s p k out r out
+  pub planning_none : p ≡ units [] → (r : Planned) → r ≡ plan_of out k 0 → Planning s p k out (Ok r) out
   planning_none e r f =
       rw e (planning_units s [] k out out 0 (record { many = rw (none_new (rows_in 1 k out)); left = rw (none_new (rows_in 1 k out)) (sym (after_nothing k out)) }) r f)

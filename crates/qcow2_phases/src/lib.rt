@@ -40,12 +40,10 @@ pub fn scan(rows: &[u64], p: u64, at: u64, len: u64) -> bool
     ensures { result ≡ meets (in_rows p rows.now) at len }
 {
     let n = rows.len() / 4;
-    let mut i = 0;
-    while i < n {
+    for i in 0..n {
         if hit(rows, i, p, at, len) {
             return true;
         }
-        i += 1;
     }
     false
 }
@@ -66,12 +64,10 @@ fn clashing(ys: &[u64], p: u64, zs: &[u64], q: u64) -> bool
     ensures { result ≡ clash (in_rows p ys.now) (in_rows q zs.now) }
 {
     let n = zs.len() / 4;
-    let mut i = 0;
-    while i < n {
+    for i in 0..n {
         if struck(ys, p, zs, i, q) {
             return true;
         }
-        i += 1;
     }
     false
 }

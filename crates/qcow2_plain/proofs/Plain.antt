@@ -1,5 +1,6 @@
 -- Laws of plain entries.
 -- Assumes nothing.
+use Rattle.std.specs.Prelude.{Err, Ok, Result}
 use Rattle.std.proofs.Common.{◌≡◌, ℕ, ◌+◌, ◌-◌, ◌*◌, ◌/◌, ◌%◌, ◌^◌, ◌<◌, ◌≤◌, Bool, true, false, not, ◌&&◌, ◌||◌, eqb, ltb, leb, ◌⊎◌, sym, refl, ap, ◌∙◌, inl, inr, mod-eq_of_lt, div-add-mod', arith, pow_pos, ltb-true, lt-ltb, eq-eqb, ne_eqb, eqb-true, le-leb, leb-true}
 use native.Mathlib.Nat.{div-div-eq-div-mul}
 use borrow.Author.Tests.{eqb-false, not-false}
@@ -8,7 +9,7 @@ use Rattle.choice.proofs.Tests.{true-not-false, if_elim, and-true, or-true}
 use Rattle.qcow2_spec.specs.Entries.{place, good_place, good_l1, good_l2, compressed, zero_mark}
 use Rattle.qcow2_spec.specs.Guest.{entry_way, entry_gives, way_gives}
 use Rattle.qcow2_spec.specs.declared.Found.{Found}
-use Rattle.qcow2_spec.specs.declared.Found.TheVariants.{Host, Zeros, Absent, Refused}
+use Rattle.qcow2_spec.specs.declared.Found.TheVariants.{Host, Zeros, Absent}
 use Rattle.qcow2_spec.specs.declared.Way.{Way}
 use Rattle.qcow2_spec.specs.declared.Way.TheVariants.{Slot}
 use Rattle.qcow2_spec.proofs.Facts.{good_place2}
@@ -96,7 +97,7 @@ module _ (b n e : ℕ) (least : 9 ≤ b) (small : n ≤ most_length) (h : plain 
   unfolding good_l1
   plain_row = (rw (eq-eqb (e % 512) 0 (bits_low e few nine), eq-eqb (e / 2 ^ 56 % 128) 0 (bits_high e few nine)) place-good, place_is)
 
-  pub plain-way : (v at : ℕ) → entry_way v (2 ^ b) n at e ≡ Slot at e
+  pub plain-way : (v at : ℕ) → entry_way v (2 ^ b) n at e ≡ Ok (Slot at e)
   unfolding entry_way
   plain-way v at = rw (flat, plain-good v)
 
@@ -227,7 +228,7 @@ other_row C n e p z = go (good_l1 C n e) refl
     go true h = let g = row-good2 C n e h in absurd (true-not-false (good-plain 3 C n e g.0 g.1 (λ q. z (empty-row C n e h q))) p)
 
 -- an entry that is not plain gives no host offset
-pub other-gives : (v C n at e o h : ℕ) → plain C n e ≡ false → way_gives (entry_way v C n at e) o ≡ Host h → ⊥
+pub other-gives : (v C n at e o h : ℕ) → plain C n e ≡ false → way_gives (entry_way v C n at e) o ≡ Ok (Host h) → ⊥
 unfolding entry_way way_gives entry_gives
 other-gives v C n at e o h f =
     if_elim P (compressed e) _ _ (λ c. refused 13)
@@ -236,17 +237,17 @@ other-gives v C n at e o h f =
     (λ m. if_elim Q (eqb (place e) 0) _ _ (λ q. absent)
     (λ q y. true-not-false (good-plain v C n e (not-false _ d) m (eqb-false _ _ q)) f))))
   where
-    P : Way → Type 0
-    P w = way_gives w o ≡ Host h → ⊥
+    P : Result Way ℕ → Type 0
+    P w = way_gives w o ≡ Ok (Host h) → ⊥
 
     Q : Found → Type 0
-    Q x = x ≡ Host h → ⊥
+    Q x = ◌≡◌ {A = Result Found ℕ} (Ok x) (Ok (Host h)) → ⊥
 
-    refused : (k : ℕ) → Refused k ≡ Host h → ⊥
-    refused k y = let z : ◌≡◌ {A = ℕ} 0 1 = cc in omega arith
+    refused : (k : ℕ) → P (Err k)
+    refused k y = cc
 
-    zeros : Zeros ≡ Host h → ⊥
-    zeros y = let z : ◌≡◌ {A = ℕ} 0 1 = cc in omega arith
+    zeros : Q Zeros
+    zeros y = cc
 
-    absent : Absent ≡ Host h → ⊥
-    absent y = let z : ◌≡◌ {A = ℕ} 0 1 = cc in omega arith
+    absent : Q Absent
+    absent y = cc

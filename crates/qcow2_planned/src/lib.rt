@@ -11,20 +11,28 @@ ghost use Rattle.qcow2_spec.specs.Opened.{Active};
 ghost use Rattle.qcow2_batches.specs.Rows.{Planning};
 
 use qcow2_batches::Planned;
-use qcow2_spec::{Geometry, Judged};
+use qcow2_spec::Geometry;
+use qcow2_spec::refusal::{Cause, Refusal};
 
-fn write_in(image: &[u8], g: Geometry, x: u64, len: u64, rows: &mut [u64], k: usize) -> Planned
+fn write_in(
+    image: &[u8],
+    g: Geometry,
+    x: u64,
+    len: u64,
+    rows: &mut [u64],
+    k: usize,
+) -> Result<Planned, Refusal>
     requires { Active g image.now }
     ensures { (b d : List ℕ) → length d ≡ len → Planning image.now (clearing image.now (write_list b image.now x d)) k rows.old result rows.new }
 {
     if qcow2_own::past_write(g, x, len) {
-        return Planned::Refused(11);
+        return Err(Cause::Range.into());
     }
     if len == 0 {
-        return qcow2_phases::planned(rows, k, 0);
+        return Ok(qcow2_phases::planned(rows, k, 0));
     }
     let guest = power::quotient(x, g.bits);
-    let way = qcow2_own::own_way(image, g, guest);
+    let way = qcow2_own::own_way(image, g, guest)?;
     let o = power::rest(x, g.bits) as usize;
     qcow2_planways::plan_write(image, g, way, guest, o, len as usize, rows, k)
 }
@@ -37,24 +45,27 @@ pub fn batch_write(
     len: u64,
     rows: &mut [u64],
     k: usize,
-) -> Planned
+) -> Result<Planned, Refusal>
     ensures { (d : List ℕ) → length d ≡ len → Planning image.now (write_plan backing.now image.now x d) k rows.old result rows.new }
 {
-    let j = qcow2_header::judge(image, backing.len() != 0);
-    match j {
-        Judged::Refused(n) => Planned::Refused(n),
-        Judged::Accepted(g) => write_in(image, g, x, len, rows, k),
-    }
+    let g = qcow2_header::judge(image, backing.len() != 0)?;
+    write_in(image, g, x, len, rows, k)
 }
 
-fn discard_in(image: &[u8], g: Geometry, guest: u64, rows: &mut [u64], k: usize) -> Planned
+fn discard_in(
+    image: &[u8],
+    g: Geometry,
+    guest: u64,
+    rows: &mut [u64],
+    k: usize,
+) -> Result<Planned, Refusal>
     requires { Active g image.now }
     ensures { Planning image.now (clearing image.now (discard_list image.now guest)) k rows.old result rows.new }
 {
     if qcow2_own::disk_clusters(g.size, g.bits) <= guest {
-        return Planned::Refused(11);
+        return Err(Cause::Range.into());
     }
-    let way = qcow2_own::own_way(image, g, guest);
+    let way = qcow2_own::own_way(image, g, guest)?;
     qcow2_planways::plan_discard(image, g, way, guest, rows, k)
 }
 
@@ -65,22 +76,25 @@ pub fn batch_discard(
     guest: u64,
     rows: &mut [u64],
     k: usize,
-) -> Planned
+) -> Result<Planned, Refusal>
     ensures { Planning image.now (discard_plan backing.now image.now guest) k rows.old result rows.new }
 {
-    let j = qcow2_header::judge(image, backing.len() != 0);
-    match j {
-        Judged::Refused(n) => Planned::Refused(n),
-        Judged::Accepted(g) => discard_in(image, g, guest, rows, k),
-    }
+    let g = qcow2_header::judge(image, backing.len() != 0)?;
+    discard_in(image, g, guest, rows, k)
 }
 
-fn repair_in(image: &[u8], g: Geometry, scratch: &mut [u8], rows: &mut [u64], k: usize) -> Planned
+fn repair_in(
+    image: &[u8],
+    g: Geometry,
+    scratch: &mut [u8],
+    rows: &mut [u64],
+    k: usize,
+) -> Result<Planned, Refusal>
     requires { Active g image.now }
     ensures { Planning image.now (clearing image.now (repair_list image.now (length scratch.old))) k rows.old result rows.new × (scratch.new ≡ scratch_counted image.now scratch.old) }
 {
     if scratch.len() / 2 < g.clusters {
-        return Planned::Refused(15);
+        return Err(Cause::Scratch.into());
     }
     let v = qcow2_check::check(image, scratch, g);
     qcow2_planways::plan_repair(image, g, v, scratch, rows, k)
@@ -93,12 +107,9 @@ pub fn batch_repair(
     scratch: &mut [u8],
     rows: &mut [u64],
     k: usize,
-) -> Planned
+) -> Result<Planned, Refusal>
     ensures { Planning image.now (repair_plan backing.now image.now (length scratch.old)) k rows.old result rows.new × (scratch.new ≡ scratch_left backing.now image.now scratch.old) }
 {
-    let j = qcow2_header::judge(image, backing.len() != 0);
-    match j {
-        Judged::Refused(n) => Planned::Refused(n),
-        Judged::Accepted(g) => repair_in(image, g, scratch, rows, k),
-    }
+    let g = qcow2_header::judge(image, backing.len() != 0)?;
+    repair_in(image, g, scratch, rows, k)
 }

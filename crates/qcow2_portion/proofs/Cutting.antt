@@ -1,5 +1,5 @@
 -- A check cut into portions answers as the check done at once, for any cutting. Assumes nothing.
-use Rattle.std.specs.Prelude.{if◌then◌else◌}
+use Rattle.std.specs.Prelude.{if◌then◌else◌, Err, Ok, None, Some}
 use Prim.Native.Nat.{ℕ, zero, suc, ◌+◌, ◌-◌, ◌*◌, ◌≤◌, ◌<◌}
 use native.Mathlib.Nat.{sub-zero}
 use native.Mathlib.Omega.{arith}
@@ -26,7 +26,6 @@ use Rattle.qcow2_portion.specs.State.{refused_with, waits, ends, taken_rows, ver
 use Rattle.qcow2_portion.specs.Cutting.{state_after, scratch_after, Cut, Cutting}
 use Rattle.qcow2_portion.specs.declared.CheckState.{CheckState}
 use Rattle.qcow2_portion.specs.declared.CheckState.TheVariants.{New, Going, Finished}
-use Rattle.qcow2_portion.specs.declared.Answer.TheVariants.{Refused, More, Told}
 use Rattle.qcow2_portion.specs.declared.Portion.{Portion}
 use Rattle.qcow2_portion.proofs.Standing.{Stands, rows, fresh, going, over, kept, more, length-held}
 
@@ -53,7 +52,7 @@ module _ (backing s : List ℕ) where
     scratch_stays [] st = refl
     scratch_stays (m ∷ ms) st = rw (no st m, left st m) (scratch_stays ms st)
 
-    answer-is : (ms : List ℕ) (m : ℕ) → (portion backing s (state_after backing s ms New z) (scratch_after backing s ms New z) m).answer ≡ Refused k
+    answer-is : (ms : List ℕ) (m : ℕ) → (portion backing s (state_after backing s ms New z) (scratch_after backing s ms New z) m).answer ≡ Err k
     answer-is ms m = rw (scratch_stays ms New, no (state_after backing s ms New z) m) refl
 
     all-refused : (ms : List ℕ) (m : ℕ) → Cut backing s z ms m
@@ -66,7 +65,7 @@ module _ (backing s : List ℕ) where
 -- ---- a verdict and a finished state come together
 module _ (v : Verdict) where
   abbrev Tells : Portion → Type 0
-  Tells p = p.answer ≡ Told v → p.state ≡ Finished v
+  Tells p = p.answer ≡ Ok (Some v) → p.state ≡ Finished v
 
   waits_tells : (st : CheckState) → Tells (waits st)
   waits_tells st e = absurd (let x : ◌≡◌ {A = ℕ} 0 1 = cc in omega arith)
@@ -94,24 +93,24 @@ module _ (v : Verdict) where
 
 -- ---- no number comes once image and scratch are accepted
 module _ (k : ℕ) where
-  if_no : (b : Bool) (p q : Portion) → (p.answer ≡ Refused k → ⊥) → (q.answer ≡ Refused k → ⊥) → (if b then p else q).answer ≡ Refused k → ⊥
+  if_no : (b : Bool) (p q : Portion) → (p.answer ≡ Err k → ⊥) → (q.answer ≡ Err k → ⊥) → (if b then p else q).answer ≡ Err k → ⊥
   if_no true p q f g = f
   if_no false p q f g = g
 
-  waits_no : (st : CheckState) → (waits st).answer ≡ Refused k → ⊥
+  waits_no : (st : CheckState) → (waits st).answer ≡ Err k → ⊥
   waits_no st e = let x : ◌≡◌ {A = ℕ} 0 1 = cc in omega arith
 
-  ends_no : (v : Verdict) → (ends v).answer ≡ Refused k → ⊥
+  ends_no : (v : Verdict) → (ends v).answer ≡ Err k → ⊥
   ends_no v e = let x : ◌≡◌ {A = ℕ} 0 1 = cc in omega arith
 
-  taken_no : (s : List ℕ) (t i : ℕ) (u : Verdict) (m : ℕ) (f : List ℕ) → (taken s t i u m f).answer ≡ Refused k → ⊥
+  taken_no : (s : List ℕ) (t i : ℕ) (u : Verdict) (m : ℕ) (f : List ℕ) → (taken s t i u m f).answer ≡ Err k → ⊥
   unfolding taken
   taken_no s t i u m f =
       let rs = taken_rows s t i m in
       let g = Going (root_after t rs) (row_after i rs) (met s rs u) in
       if_no (ltb m (length (ahead s t i))) (waits g) (ends (verdict_taken s t i u m f)) (waits_no g) (ends_no (verdict_taken s t i u m f))
 
-  stepped_no : (s : List ℕ) (st : CheckState) (y : List ℕ) (m : ℕ) → (stepped s st y m).answer ≡ Refused k → ⊥
+  stepped_no : (s : List ℕ) (st : CheckState) (y : List ℕ) (m : ℕ) → (stepped s st y m).answer ≡ Err k → ⊥
   unfolding stepped
   stepped_no s New y m = if_no (eqb m 0) (waits New) (taken s 0 0 Sound m (started s)) (waits_no New) (taken_no s 0 0 Sound m (started s))
   stepped_no s (Going t i u) y m =
@@ -168,7 +167,7 @@ module _ (backing s z : List ℕ) (fine : judge backing s ≡ 0) (room : 2 * clu
   left_is = rw (fine, le-ltb (length z) (2 * clusters s) room) refl
 
   -- a portion that may take an entry where as many as there are went before is the last one, or comes after it
-  not_more : (n : ℕ) (st : CheckState) (y : List ℕ) (m : ℕ) → Stands s z n st y → 1 ≤ m → length (rows s z) ≤ n → (stepped s st y m).answer ≡ More → ⊥
+  not_more : (n : ℕ) (st : CheckState) (y : List ℕ) (m : ℕ) → Stands s z n st y → 1 ≤ m → length (rows s z) ≤ n → (stepped s st y m).answer ≡ (Ok None) → ⊥
   unfolding stepped taken
   not_more n st y m (fresh a b c) l h e =
       let q : ahead s 0 0 ≡ tables_rows s 0 (roots s) = ahead-tables s 0 ∙ ap (tables_rows s 0) (sub-zero (roots s)) in

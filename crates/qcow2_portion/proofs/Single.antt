@@ -1,5 +1,5 @@
 -- One portion by itself: what it leaves alone, and how many entries it takes. Assumes nothing.
-use Rattle.std.specs.Prelude.{if◌then◌else◌}
+use Rattle.std.specs.Prelude.{if◌then◌else◌, Err, Ok, None}
 use Prim.Native.Nat.{ℕ, zero, suc, ◌*◌, ◌≤◌, ◌<◌}
 use native.Mathlib.Omega.{arith}
 use mathlib.Core.Path.{◌≡◌, refl, sym, ap}
@@ -21,7 +21,6 @@ use Rattle.qcow2_portion.specs.State.{refused_with, waits, ends, taken_rows, ver
 use Rattle.qcow2_portion.specs.Single.{waiting, Untouched, One, Single}
 use Rattle.qcow2_portion.specs.declared.CheckState.{CheckState}
 use Rattle.qcow2_portion.specs.declared.CheckState.TheVariants.{New, Going, Finished}
-use Rattle.qcow2_portion.specs.declared.Answer.TheVariants.{Refused, More}
 use Rattle.qcow2_portion.specs.declared.Portion.{Portion}
 
 none_left : (m : ℕ) (l : List Row) → length l ≤ m → drop m l ≡ []
@@ -34,8 +33,8 @@ module _ (s : List ℕ) where
   -- entries are taken: the others wait
   record Takes (rows : List Row) (m : ℕ) (p : Portion) : Type 0 where
     left : waiting s p.state ≡ drop m rows
-    some : 1 ≤ m → p.answer ≡ More → 0 < length (waiting s p.state)
-    numberless : (k : ℕ) → p.answer ≡ Refused k → ⊥
+    some : 1 ≤ m → p.answer ≡ (Ok None) → 0 < length (waiting s p.state)
+    numberless : (k : ℕ) → p.answer ≡ Err k → ⊥
 
   waits-takes : (st : CheckState) → Takes (waiting s st) 0 (waits st)
   waits-takes st = record { left = refl; some = λ l e. absurd (omega arith); numberless = λ k e. let x : ◌≡◌ {A = ℕ} 0 1 = cc in omega arith }
@@ -86,7 +85,7 @@ module _ (backing s : List ℕ) (st : CheckState) (z : List ℕ) (m : ℕ) where
       → (judge backing s ≡ 0 → 2 * clusters s ≤ length z → ⊥) → One backing s st z m
   one-refused k e f g out =
       let u : Untouched backing s st z m = (ap (λ (p : Portion). p.state) e, f) in
-      let a : (portion backing s st z m).answer ≡ Refused k = ap (λ (p : Portion). p.answer) e in
+      let a : (portion backing s st z m).answer ≡ Err k = ap (λ (p : Portion). p.answer) e in
       record {
         refused = λ j q. let x : k ≡ j = cc in (rw x at g, u);
         none = λ h. u;

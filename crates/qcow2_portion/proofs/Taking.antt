@@ -1,5 +1,6 @@
 -- A portion by what the code has found.
 -- Assumes nothing.
+use Rattle.std.specs.Prelude.{Err, Ok}
 use Prim.Native.Nat.{ℕ, ◌+◌, ◌-◌, ◌*◌, ◌/◌, ◌≤◌, ◌<◌, min}
 use native.Mathlib.Omega.{arith}
 use mathlib.Core.Path.{◌≡◌, refl, sym, ap, ap₂, ◌∙◌}
@@ -19,7 +20,6 @@ use Rattle.qcow2_spec.specs.Check.{or_else}
 use Rattle.qcow2_spec.specs.declared.Verdict.{Verdict}
 use Rattle.qcow2_spec.specs.declared.Verdict.TheVariants.{Sound}
 use Rattle.qcow2_spec.specs.declared.Geometry.{Geometry}
-use Rattle.qcow2_spec.specs.declared.Judged.TheVariants.{Accepted, Refused as Turned}
 use Rattle.qcow2_spec.proofs.Open.{accepted-is}
 use Rattle.qcow2_header.proofs.Chain.{unless-refused}
 use Rattle.qcow2_verdict.proofs.Figures.{figures_are}
@@ -107,11 +107,11 @@ module _ (s : List ℕ) (st : CheckState) (z : List ℕ) (may N : ℕ) (is : N �
 
 -- ---- by the header
 module _ (backing s : List ℕ) (st : CheckState) (z : List ℕ) (may : ℕ) where
-  pub portion-refused : (k : ℕ) → opened (some_lent backing) s ≡ Turned k → (refused_with st k ≡ portion backing s st z may) × (z ≡ scratch_portion backing s st z may)
+  pub portion-refused : (k : ℕ) → opened (some_lent backing) s ≡ Err k → (refused_with st k ≡ portion backing s st z may) × (z ≡ scratch_portion backing s st z may)
   unfolding portion scratch_portion
   portion-refused k e = (sym (unless-refused backing s k e (refused_with st) _), sym (unless-refused backing s k e (λ n. z) _))
 
-  pub portion-accepted : (g : Geometry) → opened (some_lent backing) s ≡ Accepted g → (p : Portion) (y : List ℕ) → p ≡ portioned s st z may → y ≡ scratch_portioned s st z may
+  pub portion-accepted : (g : Geometry) → opened (some_lent backing) s ≡ Ok g → (p : Portion) (y : List ℕ) → p ≡ portioned s st z may → y ≡ scratch_portioned s st z may
       → (p ≡ portion backing s st z may) × (y ≡ scratch_portion backing s st z may)
   unfolding portion scratch_portion judge
   portion-accepted g e p y hp hy = rw (accepted-is (some_lent backing) s g e).0 (hp, hy)

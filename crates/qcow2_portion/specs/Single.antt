@@ -1,6 +1,6 @@
 -- One portion by itself, of any state, image, run and scratch: what it leaves alone, and how many entries it takes. Paper 02, T-12.
 -- Assumes nothing.
-use Rattle.std.specs.Prelude.{ℕ, ◌*◌, ◌≤◌, ◌<◌, ◌≡◌, List, [], length, drop}
+use Rattle.std.specs.Prelude.{ℕ, ◌*◌, ◌≤◌, ◌<◌, ◌≡◌, List, [], length, drop, Err, Ok, None, Some}
 use Rattle.qcow2_spec.specs.Header.{clusters, judge}
 use Rattle.qcow2_spec.specs.Check.{check}
 use Rattle.qcow2_spec.specs.declared.Verdict.{Verdict}
@@ -9,7 +9,6 @@ use Rattle.qcow2_portions.specs.Rows.{Row, ahead}
 use Rattle.qcow2_portion.specs.State.{portion, scratch_portion}
 use Rattle.qcow2_portion.specs.declared.CheckState.{CheckState}
 use Rattle.qcow2_portion.specs.declared.CheckState.TheVariants.{New, Going, Finished}
-use Rattle.qcow2_portion.specs.declared.Answer.TheVariants.{Refused, More, Told}
 
 -- the entries that a state has ahead of it
 unfoldable pub waiting : List ℕ → CheckState → List Row
@@ -23,16 +22,16 @@ Untouched backing s st z m = ((portion backing s st z m).state ≡ st) × (scrat
 
 pub record One (backing s : List ℕ) (st : CheckState) (z : List ℕ) (m : ℕ) : Type 0 where
   -- a refused portion changes nothing, and its number is the check's
-  pub refused : (k : ℕ) → (portion backing s st z m).answer ≡ Refused k → (check backing s (length z) ≡ RefusedCheck k) × Untouched backing s st z m
+  pub refused : (k : ℕ) → (portion backing s st z m).answer ≡ Err k → (check backing s (length z) ≡ RefusedCheck k) × Untouched backing s st z m
   -- one that may take none changes nothing
   pub none : m ≡ 0 → Untouched backing s st z m
   -- nor does one that gets a finished state, which answers as before
   pub finished : (v : Verdict) → st ≡ Finished v → Untouched backing s st z m
-  pub again : (v : Verdict) → judge backing s ≡ 0 → 2 * clusters s ≤ length z → st ≡ Finished v → (portion backing s st z m).answer ≡ Told v
+  pub again : (v : Verdict) → judge backing s ≡ 0 → 2 * clusters s ≤ length z → st ≡ Finished v → (portion backing s st z m).answer ≡ Ok (Some v)
   -- one that is accepted takes as many entries as it may while some are left
   pub takes : judge backing s ≡ 0 → 2 * clusters s ≤ length z → waiting s (portion backing s st z m).state ≡ drop m (waiting s st)
   -- and where none is left the check is finished
-  pub more : 1 ≤ m → (portion backing s st z m).answer ≡ More → 0 < length (waiting s (portion backing s st z m).state)
+  pub more : 1 ≤ m → (portion backing s st z m).answer ≡ (Ok None) → 0 < length (waiting s (portion backing s st z m).state)
 
 abbrev pub Single : Type 0
 Single = (backing s : List ℕ) (st : CheckState) (z : List ℕ) (m : ℕ) → One backing s st z m

@@ -1,6 +1,6 @@
 -- One portion of a check: the next state, the answer and the scratch, for every state. Paper 02, T-12.
 -- Assumes nothing.
-use Rattle.std.specs.Prelude.{ℕ, ◌*◌, List, ◌++◌, ltb, eqb, length, take, drop, if◌then◌else◌}
+use Rattle.std.specs.Prelude.{ℕ, ◌*◌, List, ◌++◌, ltb, eqb, length, take, drop, if◌then◌else◌, Err, Ok, None, Some}
 use Rattle.choice.specs.Pick.{unless}
 use Rattle.tally.specs.States.{twos}
 use Rattle.qcow2_spec.specs.Header.{clusters, judge}
@@ -11,20 +11,19 @@ use Rattle.qcow2_portions.specs.Rows.{Row, ahead, added, met, root_after, row_af
 use Rattle.qcow2_portions.specs.Last.{last_verdict}
 use Rattle.qcow2_portion.specs.declared.CheckState.{CheckState}
 use Rattle.qcow2_portion.specs.declared.CheckState.TheVariants.{New, Going, Finished}
-use Rattle.qcow2_portion.specs.declared.Answer.TheVariants.{Refused, More, Told}
 use Rattle.qcow2_portion.specs.declared.Portion.{Portion}
 
 -- the state as it was, and a number
 abbrev pub refused_with : CheckState → ℕ → Portion
-refused_with st k = record { state = st; answer = Refused k }
+refused_with st k = record { state = st; answer = Err k }
 
 -- nothing is done, and the check is not finished
 abbrev pub waits : CheckState → Portion
-waits st = record { state = st; answer = More }
+waits st = record { state = st; answer = (Ok None) }
 
 -- the verdict is known
 abbrev pub ends : Verdict → Portion
-ends v = record { state = Finished v; answer = Told v }
+ends v = record { state = Finished v; answer = Ok (Some v) }
 
 -- ---- entries are taken from index i of L1 table t on, as many as may be, where v is the first bad entry met so far and z are the figures
 -- those that are taken

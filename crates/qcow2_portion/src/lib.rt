@@ -7,7 +7,8 @@ ghost use Rattle.qcow2_portions.specs.Rows.{started};
 ghost use Rattle.qcow2_portion.specs.declared.CheckState.TheVariants.{New};
 ghost use Rattle.qcow2_portion.specs.State.{figures_taken, taken as taken_of, stepped as stepped_of, scratch_stepped, portioned as portioned_of, scratch_portioned, portion as portion_of, scratch_portion};
 
-use qcow2_spec::{Geometry, Judged, Verdict};
+use qcow2_spec::refusal::{Cause, Refusal};
+use qcow2_spec::{Geometry, Verdict};
 
 // Where a check stands: nothing is done yet; so far: the L1 table and the index after the last entry taken, and the first bad entry met (Sound
 // where none was); or its verdict is known. L1 table 0 is the active one, and k + 1 snapshot k's.
@@ -18,19 +19,11 @@ pub enum CheckState {
     Finished(Verdict),
 }
 
-// What a portion answers: a number; that entries are left; or the verdict.
-#[derive(Clone, Copy)]
-pub enum Answer {
-    Refused(u8),
-    More,
-    Told(Verdict),
-}
-
-// The next state, and the answer.
+// The next state, and the verdict, or none while entries are left.
 #[derive(Clone, Copy)]
 pub struct Portion {
     pub state: CheckState,
-    pub answer: Answer,
+    pub answer: Result<Option<Verdict>, Refusal>,
 }
 
 // Entries are taken from an index of an L1 table on, as many as may be. Where none is left this is the last portion.
@@ -47,19 +40,19 @@ fn taken(
     ensures { (result ≡ taken_of image.now root row found may scratch.old) × (scratch.new ≡ figures_taken image.now root row may scratch.old) }
 {
     let n = qcow2_ahead::count_ahead(image, g, root, row);
-    let count = power::lesser(may, n);
+    let count = may.min(n);
     let w = qcow2_take::take(image, scratch, g, root, row, found, count);
     let met = w.found;
     if may < n {
         return Portion {
             state: CheckState::Going(w.root, w.row, met),
-            answer: Answer::More,
+            answer: Ok(None),
         };
     }
     let v = qcow2_last::verdict_of(image, scratch, g, met);
     Portion {
         state: CheckState::Finished(v),
-        answer: Answer::Told(v),
+        answer: Ok(Some(v)),
     }
 }
 
@@ -103,14 +96,14 @@ fn stepped(st: CheckState, image: &[u8], scratch: &mut [u8], g: Geometry, may: u
         CheckState::Finished(v) => {
             return Portion {
                 state: st,
-                answer: Answer::Told(v),
+                answer: Ok(Some(v)),
             };
         }
         CheckState::New => {
             if may == 0 {
                 return Portion {
                     state: st,
-                    answer: Answer::More,
+                    answer: Ok(None),
                 };
             }
             return entered(
@@ -128,7 +121,7 @@ fn stepped(st: CheckState, image: &[u8], scratch: &mut [u8], g: Geometry, may: u
             if may == 0 {
                 return Portion {
                     state: st,
-                    answer: Answer::More,
+                    answer: Ok(None),
                 };
             }
             return entered(image, &mut scratch[..m], g, true, root, row, found, may);
@@ -144,7 +137,7 @@ fn portioned(st: CheckState, image: &[u8], scratch: &mut [u8], g: Geometry, may:
     if scratch.len() / 2 < g.clusters {
         return Portion {
             state: st,
-            answer: Answer::Refused(15),
+            answer: Err(Cause::Scratch.into()),
         };
     }
     stepped(st, image, scratch, g, may)
@@ -163,13 +156,12 @@ impl CheckState {
     pub fn portion(self, image: &[u8], backing: &[u8], scratch: &mut [u8], may: usize) -> Portion
         ensures { (result ≡ portion_of backing.now image.now self scratch.old may) × (scratch.new ≡ scratch_portion backing.now image.now self scratch.old may) }
     {
-        let j = qcow2_header::judge(image, backing.len() != 0);
-        match j {
-            Judged::Refused(k) => Portion {
+        match qcow2_header::judge(image, backing.len() != 0) {
+            Err(e) => Portion {
                 state: self,
-                answer: Answer::Refused(k),
+                answer: Err(e),
             },
-            Judged::Accepted(g) => portioned(self, image, scratch, g, may),
+            Ok(g) => portioned(self, image, scratch, g, may),
         }
     }
 }

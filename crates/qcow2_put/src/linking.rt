@@ -1,6 +1,6 @@
 // Clusters that are filled and then linked, with every place given. A count comes before the bytes and the bytes before the entry that
 // names them, so a cut leaves at most a leak.
-ghost use Rattle.std.specs.Prelude.{◌≡◌, ◌+◌, ◌-◌, ◌^◌, ◌≤◌, [], ◌∷◌, ◌++◌, length, take, replicate};
+ghost use Rattle.std.specs.Prelude.{◌≡◌, ◌+◌, ◌-◌, ◌^◌, ◌≤◌, [], ◌∷◌, ◌++◌, length, take, replicate, Ok};
 ghost use Rattle.endian.specs.Big.{splice};
 ghost use Rattle.units.specs.Units.{apply_all, count, entry, fill, cluster};
 ghost use Rattle.fills.specs.Padded.{padded};
@@ -9,7 +9,7 @@ ghost use Rattle.qcow2_spec.specs.Entries.{new_entry};
 ghost use Rattle.qcow2_put.specs.Links.{Filled, Linked, CellIn, table_units, unit_of};
 ghost use Rattle.widths.specs.Width.{Inside};
 
-use units::Outcome;
+use units::Ended;
 
 // A unit of metadata: its place and its value; of a count also its width, as a power of two, and the place is a bit's.
 #[derive(Clone, Copy)]
@@ -86,9 +86,9 @@ pub fn put_new(
     src: &[u8],
     o: usize,
     allowance: usize,
-) -> Outcome
+) -> Ended
     requires { Inside order (length image.old) count_at × Filled (length image.old) entry_at at c o base.now src.now }
-    ensures { Done (planned ((count (2 ^ order) count_at 1 ∷ fill at (splice (padded c base.now) o src.now)) ++ entry entry_at (new_entry at) ∷ [])) allowance image.old result image.new }
+    ensures { Done (planned ((count (2 ^ order) count_at 1 ∷ fill at (splice (padded c base.now) o src.now)) ++ entry entry_at (new_entry at) ∷ [])) allowance image.old (Ok result) image.new }
 {
     let left = allot(image, order, count_at, at, c, base, src, o, allowance);
     units::store_entry(image, entry_at, at as u64 + 9223372036854775808, left);
@@ -104,9 +104,9 @@ pub fn put_marked(
     src: &[u8],
     o: usize,
     allowance: usize,
-) -> Outcome
+) -> Ended
     requires { Filled (length image.old) entry_at at c o [] src.now }
-    ensures { Done (planned (fill at (cluster c o src.now) ++ entry entry_at (new_entry at) ∷ [])) allowance image.old result image.new }
+    ensures { Done (planned (fill at (cluster c o src.now) ++ entry entry_at (new_entry at) ∷ [])) allowance image.old (Ok result) image.new }
 {
     let rest = fills::store_cluster(image, at, c, &src[0..0], src, o, allowance);
     units::store_entry(image, entry_at, at as u64 + 9223372036854775808, rest);
@@ -114,9 +114,9 @@ pub fn put_marked(
 }
 
 // Bytes alone.
-pub fn put_bytes(image: &mut [u8], at: usize, src: &[u8], allowance: usize) -> Outcome
+pub fn put_bytes(image: &mut [u8], at: usize, src: &[u8], allowance: usize) -> Ended
     requires { at + length src.now ≤ length image.old }
-    ensures { Done (planned (fill at src.now)) allowance image.old result image.new }
+    ensures { Done (planned (fill at src.now)) allowance image.old (Ok result) image.new }
 {
     fills::store_bytes(image, at, src, allowance);
     units::end_of(src.len(), allowance)
@@ -143,9 +143,9 @@ pub fn put_table(
     src: &[u8],
     o: usize,
     allowance: usize,
-) -> Outcome
+) -> Ended
     requires { Linked (length image.old) p c × ((o + length src.now ≤ c) × (length base.now ≤ c)) }
-    ensures { Done (planned (table_units p c (splice (padded c base.now) o src.now))) allowance image.old result image.new }
+    ensures { Done (planned (table_units p c (splice (padded c base.now) o src.now))) allowance image.old (Ok result) image.new }
 {
     let left = allot_zeros(image, p.order, p.tablecount, p.table, c, src, allowance);
     let rest = allot(image, p.order, p.datacount, p.place, c, base, src, o, left);

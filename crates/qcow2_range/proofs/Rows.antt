@@ -1,25 +1,29 @@
 -- The number of ways that are taken one L2 table at a time.
 -- Assumes nothing.
+use Rattle.std.specs.Prelude.{Err, Ok, Result}
 use Prim.Native.Nat.{ℕ, zero, suc, ◌+◌, ◌-◌, ◌*◌, ◌%◌, ◌^◌, ◌≤◌, ◌<◌}
 use native.Mathlib.Nat.{add-zero}
 use native.Mathlib.Omega.{arith}
 use mathlib.Core.Path.{◌≡◌, refl, sym, ap, ◌∙◌}
-use mathlib.Core.Bool.{true, false}
+use mathlib.Core.Bool.{true, false, not}
 use mathlib.Core.List.{List}
 use lib.ListN.{length, drop, length-drop}
 use lib.Seq.{length-take-le}
 use Rattle.choice.specs.Pick.{unless}
+use Rattle.choice.proofs.Tests.{if_elim}
 use Rattle.endian.specs.Big.{part}
-use Rattle.qcow2_spec.specs.Header.{most_bits, most_length, version, cluster_size, per_table}
+use Rattle.qcow2_spec.specs.Header.{most_bits, most_length, cluster_size, per_table}
 use Rattle.qcow2_spec.specs.Entries.{place, good_place, good_l1, good_l2, compressed, zero_mark}
 use Rattle.qcow2_spec.specs.Guest.{l1_entry_at, l1_entry, entry_way, way, way_number, ways_number}
 use Rattle.qcow2_spec.specs.Opened.{Opened}
 use Rattle.qcow2_spec.specs.declared.Geometry.{Geometry}
 use Rattle.qcow2_spec.specs.declared.Way.{Way}
-use Rattle.qcow2_spec.specs.declared.Way.TheVariants.{NoTable}
+use Rattle.qcow2_spec.specs.declared.Way.TheVariants.{NoTable, Slot}
 use Rattle.qcow2_spec.proofs.Facts.{facts, c_in}
 use Rattle.qcow2_plain.specs.Plain.{plain}
 use Rattle.qcow2_plain.proofs.Plain.{plain-way}
+use Rattle.qcow2_spec.specs.Causes.{answer}
+use Rattle.qcow2_spec.proofs.Answered.{answer_some}
 use Rattle.qcow2_range.specs.Slots.{slot, numbers}
 use Rattle.qcow2_guest.proofs.Pieces.{same-cluster, same_rest}
 use Rattle.qcow2_guest.proofs.Steps.{table-entry, way-bad, way-none, way-some}
@@ -33,8 +37,24 @@ pub easy_plain : (v b n at e : ℕ) → 9 ≤ b → n ≤ most_length → plain 
 unfolding way_number
 easy_plain v b n at e l h p = ap way_number (plain-way b n e l h p v at)
 
+-- a good way has no number, and none that is refused has 0
+pub good : (w : Result Way ℕ) (v : Way) → w ≡ Ok v → way_number w ≡ 0
+unfolding way_number
+good (Ok NoTable) v e = refl
+good (Ok (Slot a y)) v e = refl
+good (Err k) v e = cc
+
+pub refuses : (v C n at e k : ℕ) → entry_way v C n at e ≡ Err k → k ≡ 0 → ⊥
+unfolding entry_way
+refuses v C n at e k =
+    if_elim P (compressed e) _ _ (λ c y z. let w : k ≡ 13 = cc in omega arith)
+    (λ c. if_elim P (not (good_l2 v C n e)) _ _ (λ d y z. let w : k ≡ 12 = cc in omega arith) (λ d y z. cc))
+  where
+    P : Result Way ℕ → Type 0
+    P w = w ≡ Err k → k ≡ 0 → ⊥
+
 -- ---- the first m of k ways
-module _ (f : ℕ → Way) where
+module _ (f : ℕ → Result Way ℕ) where
   -- one way
   pub one : (i : ℕ) → numbers f i 1 ≡ way_number (f i)
   unfolding numbers
@@ -72,8 +92,14 @@ module _ (f : ℕ → Way) where
 
   -- the way at i, of those to an end
   module _ (i end : ℕ) where
-    pub halt : i < end → (way_number (f i) ≡ 0 → ⊥) → numbers f i (end - i) ≡ way_number (f i)
+    halt : i < end → (way_number (f i) ≡ 0 → ⊥) → numbers f i (end - i) ≡ way_number (f i)
     halt h n = numbers_stop i (end - i) 1 (omega arith) (λ z. n (sym (one i) ∙ z)) ∙ one i
+
+    pub stop : (k : ℕ) → i < end → f i ≡ Err k → (k ≡ 0 → ⊥) → Err k ≡ answer (numbers f i (end - i))
+    unfolding way_number
+    stop k h e n =
+        let v : way_number (f i) ≡ k = ap way_number e in
+        answer_some k n ∙ ap answer (sym (halt h (λ z. n (sym v ∙ z)) ∙ v))
 
     pub turn : i < end → way_number (f i) ≡ 0 → numbers f i (end - i) ≡ numbers f (i + 1) (end - (i + 1))
     turn h z = let e : end - i - 1 ≡ end - (i + 1) = omega arith in numbers-next i (end - i) 1 (omega arith) (one i ∙ z) ∙ ap (numbers f (i + 1)) e
@@ -83,7 +109,7 @@ module _ (f : ℕ → Way) where
     over h = let e : end - i ≡ 0 = omega arith in rw e
 
 -- ---- the same ways
-pub same_numbers : (f h : ℕ → Way) (a b k : ℕ) → ((j : ℕ) → j < k → f (a + j) ≡ h (b + j)) → numbers f a k ≡ numbers h b k
+pub same_numbers : (f h : ℕ → Result Way ℕ) (a b k : ℕ) → ((j : ℕ) → j < k → f (a + j) ≡ h (b + j)) → numbers f a k ≡ numbers h b k
 unfolding numbers
 same_numbers f h a b zero e = refl
 same_numbers f h a b (suc k) e =
@@ -96,11 +122,11 @@ same_numbers f h a b (suc k) e =
         let y : suc b + j ≡ b + suc j = omega arith in
         rw (x, y) (e (suc j) (omega arith))
 
-no_numbers : (f : ℕ → Way) (i k : ℕ) → ((j : ℕ) → j < k → f (i + j) ≡ NoTable) → numbers f i k ≡ 0
+no_numbers : (f : ℕ → Result Way ℕ) (i k : ℕ) → ((j : ℕ) → j < k → f (i + j) ≡ Ok NoTable) → numbers f i k ≡ 0
 unfolding numbers way_number
-no_numbers f i k e = same_numbers f (λ x. NoTable) i 0 k e ∙ none 0 k
+no_numbers f i k e = same_numbers f (λ x. Ok NoTable) i 0 k e ∙ none 0 k
   where
-    none : (a n : ℕ) → numbers (λ x. NoTable) a n ≡ 0
+    none : (a n : ℕ) → numbers (λ x. Ok NoTable) a n ≡ 0
     none a zero = refl
     none a (suc n) = none (suc a) n
 

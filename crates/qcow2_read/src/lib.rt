@@ -2,12 +2,14 @@
 #![tactic(auto)]
 
 ghost use Rattle.std.specs.Prelude.{◌≡◌, ◌+◌, ◌-◌, ◌%◌, ◌^◌, ◌<◌, ◌≤◌, ◌++◌, length, take, drop};
+ghost use Rattle.qcow2_spec.specs.Causes.{answer};
 ghost use Rattle.qcow2_spec.specs.Header.{most_bits, most_length};
 ghost use Rattle.qcow2_spec.specs.Guest.{reach, guest_bytes, range_number, range_into, found_part, translated};
 ghost use Rattle.qcow2_spec.specs.Opened.{Opened, Active};
 ghost use Rattle.qcow2_plain.specs.Plain.{bare};
 ghost use Rattle.qcow2_guest.specs.Rows.{Lent, table_of, row_left};
 
+use qcow2_spec::refusal::Refusal;
 use qcow2_spec::{Found, Geometry};
 
 // The host offset that a plain entry gives for guest offset x. By the cluster's number, so that the entry stays one number.
@@ -64,6 +66,7 @@ fn read_below(image: &[u8], backing: &[u8], table: &[u8], g: Geometry, x: u64, o
     requires { (Opened g image.now) × ((x + length out.old ≤ reach image.now g.root) × (Lent image.now g.root table.now x (length out.old))) }
     ensures { out.new ≡ guest_bytes backing.now image.now g.root x (length out.old) }
 {
+    // A while: how far a turn goes is known only in it.
     let mut done = 0;
     while done < out.len() {
         done = next_piece(image, backing, table, g, x, out, done);
@@ -125,6 +128,7 @@ fn read_all(image: &[u8], backing: &[u8], g: Geometry, x: u64, out: &mut [u8])
     requires { (Opened g image.now) × (x + length out.old ≤ reach image.now g.root) }
     ensures { out.new ≡ guest_bytes backing.now image.now g.root x (length out.old) }
 {
+    // A while: how far a turn goes is known only in it.
     let mut done = 0;
     while done < out.len() {
         done = read_next(image, backing, g, x, out, done);
@@ -132,16 +136,19 @@ fn read_all(image: &[u8], backing: &[u8], g: Geometry, x: u64, out: &mut [u8])
 }
 
 // Reads the disk's bytes from x on, over a backing file whose bytes are lent. The output is filled whole or, refused, not at all.
-pub fn read_into(image: &[u8], backing: &[u8], g: Geometry, x: u64, out: &mut [u8]) -> u8
+pub fn read_into(
+    image: &[u8],
+    backing: &[u8],
+    g: Geometry,
+    x: u64,
+    out: &mut [u8],
+) -> Result<(), Refusal>
     requires { Opened g image.now }
-    ensures { (result ≡ range_number image.now g.root x (length out.old)) × (out.new ≡ range_into backing.now image.now g.root x out.old) }
+    ensures { (result ≡ answer (range_number image.now g.root x (length out.old))) × (out.new ≡ range_into backing.now image.now g.root x out.old) }
 {
-    let k = qcow2_range::read_number(image, g, x, out.len());
-    if k != 0 {
-        return k;
-    }
+    qcow2_range::check_read(image, g, x, out.len())?;
     read_all(image, backing, g, x, out);
-    0
+    Ok(())
 }
 
 // The disk's bytes from x on as a part of the image, to the end of the cluster or of the disk; empty where x has no host offset.
@@ -151,11 +158,11 @@ pub fn part_in<'a>(image: &'a [u8], g: Geometry, x: u64) -> &'a [u8]
 {
     let f = qcow2_guest::translated(image, g, x);
     match f {
-        Found::Host(h) => {
+        Ok(Found::Host(h)) => {
             let at = h as usize;
             let m = qcow2_guest::piece(x, (g.size - x) as usize, g.bits);
             &image[at..at + m]
         }
-        _ => &image[..0],
+        Ok(Found::Zeros | Found::Absent) | Err(_) => &image[..0],
     }
 }

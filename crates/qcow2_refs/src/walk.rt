@@ -31,16 +31,15 @@ fn walk_table(table: &[u8], scratch: &mut [u8], version: u32, bits: u32, n: u64,
     ensures { Passed leaf (l2_refs version (2 ^ bits) n) (passes leaf version (2 ^ bits) n) (whole table.now) scratch.old scratch.new result }
 {
     let per = table.len() / 8;
-    let mut j = qcow2_groups::walk_good(table, scratch, version, bits, n, leaf);
-    let mut r = j;
-    while j < per {
+    let good = qcow2_groups::walk_good(table, scratch, version, bits, n, leaf);
+    let mut r = good;
+    for j in good..per {
         let e = endian::load64(table, 8 * j);
         r = front(
             r,
             j,
             qcow2_groups::walk_any(scratch, e, version, bits, n, leaf),
         );
-        j += 1;
     }
     r
 }
@@ -105,11 +104,7 @@ fn passed(w: Progress, k: usize, per: usize) -> Progress
 {
     let row = w.row + 1;
     if w.good < w.row {
-        return Progress {
-            row,
-            good: w.good,
-            below: w.below,
-        };
+        return Progress { row, ..w };
     }
     Progress {
         row,
@@ -145,6 +140,7 @@ pub fn walk_rows(image: &[u8], scratch: &mut [u8], g: Geometry, table: u16, leaf
         good: 0,
         below: 0,
     };
+    // A `while`: the row is a part of the state that each step hands on (`walked`).
     while w.row < g.l1size {
         w = next_row(w, image, scratch, g, table, leaf);
     }

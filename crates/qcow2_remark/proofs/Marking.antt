@@ -16,7 +16,7 @@ use Rattle.endian.specs.Big.{entries, part}
 use Rattle.endian.proofs.Entries.{be64-drop, length-entries, entries-whole, entries_turn, entries_none}
 use Rattle.tally.specs.States.{twos}
 use Rattle.packed.proofs.Parts.{length_part}
-use Rattle.qcow2_spec.specs.Header.{version, cluster_size, per_table, root_at, root_size}
+use Rattle.qcow2_spec.specs.Header.{cluster_size, per_table, root_at, root_size}
 use Rattle.qcow2_spec.specs.Entries.{place, good_l1, good_l2}
 use Rattle.qcow2_spec.specs.References.{l1_entries, l2_entries}
 use Rattle.qcow2_spec.specs.Check.{Seek, l2_verdict, entry_verdict, l1_verdict, right_mark}

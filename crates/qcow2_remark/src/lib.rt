@@ -29,14 +29,12 @@ fn table_fore(table: &[u8], scratch: &[u8], version: u32, bits: u32, n: u64) -> 
     ensures { result ≡ fore (right_l2 version (2 ^ bits) n scratch.now) (whole table.now) }
 {
     let per = table.len() / 8;
-    let mut j = 0;
-    while j < per {
+    for j in 0..per {
         if wrong_mark(endian::load64(table, 8 * j), scratch, version, bits, n) {
             return j;
         }
-        j += 1;
     }
-    j
+    per
 }
 
 // The same for the L2 table at a place of the image.
@@ -81,8 +79,7 @@ pub fn first_wrong(image: &[u8], scratch: &[u8], g: Geometry) -> Verdict
 {
     let per = (power::power(g.bits) / 8) as usize;
     let rows = g.l1size;
-    let mut i = 0;
-    while i < rows {
+    for i in 0..rows {
         let k = row_fore(image, scratch, qcow2_refs::row_at(image, i, g), g);
         if k < per {
             return Verdict::MarkL2(i, k);
@@ -90,7 +87,6 @@ pub fn first_wrong(image: &[u8], scratch: &[u8], g: Geometry) -> Verdict
         if per < k {
             return Verdict::MarkL1(i);
         }
-        i += 1;
     }
     Verdict::Sound
 }

@@ -1,4 +1,5 @@
 -- What a repair does by the verdict is the plan of the definition. Assumes nothing.
+use Rattle.std.specs.Prelude.{Result, Ok}
 use Prim.Native.Nat.{ℕ}
 use native.Mathlib.Omega.{arith}
 use mathlib.Core.Path.{◌≡◌, refl, sym, ap, ◌∙◌}
@@ -13,26 +14,27 @@ use Rattle.qcow2_repair.specs.Leaks.{Figured, Leaking}
 use Rattle.qcow2_repair.specs.Mends.{mending_of, mend_plan}
 use Rattle.qcow2_repair.specs.declared.Mending.{Mending}
 use Rattle.qcow2_repair.specs.declared.Mending.TheVariants.{Counts}
+use Rattle.qcow2_repair.proofs.Real.{unrefused}
 use Rattle.qcow2_repair.proofs.Repairs.{leaking}
 
-plan_is : (s : List ℕ) (v : Verdict) → verdict_plan s v ≡ mend_plan s (mending_of v)
+plan_is : (s : List ℕ) (v : Verdict) → v ≡ verdict s → verdict_plan s v ≡ mend_plan s (mending_of v)
 unfolding mending_of verdict_plan
-plan_is s Sound = refl
-plan_is s (Leaks m) = refl
-plan_is s (BadL1 t i) = refl
-plan_is s (BadL2 t i j) = refl
-plan_is s (Shared k) = refl
-plan_is s (Short k) = refl
-plan_is s (MarkL1 i) = refl
-plan_is s (MarkL2 i j) = refl
-plan_is s (Refused k) = refl
+plan_is s Sound e = refl
+plan_is s (Leaks m) e = refl
+plan_is s (BadL1 t i) e = refl
+plan_is s (BadL2 t i j) e = refl
+plan_is s (Shared k) e = refl
+plan_is s (Short k) e = refl
+plan_is s (MarkL1 i) e = refl
+plan_is s (MarkL2 i j) e = refl
+plan_is s (Refused k) e = absurd (unrefused s k (sym e))
 
 -- of the code's m, which is n
-pub plan_mends : (s : List ℕ) (v : Verdict) (m n : Mending) → m ≡ mending_of v → m ≡ n → verdict_plan s v ≡ mend_plan s n
-plan_mends s v m n e f = plan_is s v ∙ ap (mend_plan s) (sym e ∙ f)
+pub plan_mends : (s : List ℕ) (v : Verdict) (m n : Result Mending ℕ) → v ≡ verdict s → m ≡ mending_of v → m ≡ n → verdict_plan s v ≡ mend_plan s n
+plan_mends s v m n q e f = plan_is s v q ∙ ap (mend_plan s) (sym e ∙ f)
 
 -- counts are set where the image leaks
-counts-leak : (v : Verdict) (m : Mending) → m ≡ mending_of v → m ≡ Counts → (k : ℕ) × (v ≡ Leaks k)
+counts-leak : (v : Verdict) (m : Result Mending ℕ) → m ≡ mending_of v → m ≡ Ok Counts → (k : ℕ) × (v ≡ Leaks k)
 unfolding mending_of
 counts-leak Sound m e f = absurd (let z : ◌≡◌ {A = ℕ} 0 1 = cc in omega arith)
 counts-leak (Leaks k) m e f = (k, refl)
@@ -44,5 +46,5 @@ counts-leak (MarkL1 i) m e f = absurd (let z : ◌≡◌ {A = ℕ} 0 1 = cc in o
 counts-leak (MarkL2 i j) m e f = absurd (let z : ◌≡◌ {A = ℕ} 0 1 = cc in omega arith)
 counts-leak (Refused k) m e f = absurd (let z : ◌≡◌ {A = ℕ} 0 1 = cc in omega arith)
 
-pub counts_leaking : (g : Geometry) (s refs : List ℕ) (v : Verdict) (m : Mending) → Bytes s → Opened g s → Figured s refs → v ≡ verdict s → m ≡ mending_of v → m ≡ Counts → Leaking g s refs
+pub counts_leaking : (g : Geometry) (s refs : List ℕ) (v : Verdict) (m : Result Mending ℕ) → Bytes s → Opened g s → Figured s refs → v ≡ verdict s → m ≡ mending_of v → m ≡ Ok Counts → Leaking g s refs
 counts_leaking g s refs v m by o f q e h = let k = counts-leak v m e h in leaking g s refs k.0 by o f (sym q ∙ k.1)

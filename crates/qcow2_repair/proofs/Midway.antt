@@ -1,4 +1,5 @@
 -- A repair midway: what it reads is what stood there on entry, since the counts lie apart. Assumes nothing.
+use Rattle.std.specs.Prelude.{Ok}
 use Prim.Native.Nat.{ℕ, zero, suc, ◌+◌, ◌-◌, ◌*◌, ◌/◌, ◌%◌, ◌^◌, ◌≤◌, ◌<◌}
 use native.Mathlib.Nat.{add-zero, add-suc}
 use native.Mathlib.Omega.{arith}
@@ -15,7 +16,7 @@ use Rattle.widths.proofs.Whole.{within}
 use Rattle.widths.proofs.Cells.{even_order, inside-bytes}
 use Rattle.units.specs.Units.{apply_all}
 use Rattle.units.specs.Plan.{units, ended, Done}
-use Rattle.units.specs.declared.Outcome.{Outcome}
+use Rattle.units.specs.declared.Ended.{Ended}
 use Rattle.units.proofs.Laws.{length-apply_all}
 use Rattle.units.proofs.Steps.{two, stored}
 use Rattle.units.proofs.Elsewhere.{Off, none, off_append, untouched, Beside, lone, beside_append, unmoved}
@@ -76,7 +77,7 @@ module _ (g : Geometry) (s fs : List ℕ) where
   unfolding mend_units apply_all
   state_first a = record { spent = refl; few = omega arith; image = rw take-nil }
 
-  pub state_last : (a k n : ℕ) (t : List ℕ) (r : Outcome) → State a k n t → k ≡ g.clusters → r ≡ ended n a → Done (units (mend_units g s fs g.clusters)) a s r t
+  pub state_last : (a k n : ℕ) (t : List ℕ) (r : Ended) → State a k n t → k ≡ g.clusters → r ≡ ended n a → Done (units (mend_units g s fs g.clusters)) a s (Ok r) t
   state_last a k n t r st e q =
       let x = subst (λ (j : ℕ). State a j n t) e st in
       stored (mend_units g s fs g.clusters) a s t r n (sym x.spent) q x.image

@@ -2,7 +2,7 @@
 // such an image lie apart from each other, from the refcount table and from the header, so that what is read on the way is what stood there on entry.
 #![tactic(auto)]
 
-ghost use Rattle.std.specs.Prelude.{◌≡◌, ◌+◌, ◌-◌, ◌%◌, ◌≤◌, ◌<◌, ◌++◌, length, take};
+ghost use Rattle.std.specs.Prelude.{◌≡◌, ◌+◌, ◌-◌, ◌%◌, ◌≤◌, ◌<◌, ◌++◌, length, take, Ok};
 ghost use Rattle.units.specs.Units.{apply_all};
 ghost use Rattle.units.specs.Plan.{units as planned, Done};
 ghost use Rattle.qcow2_spec.specs.Header.{most_bits, most_length, clusters};
@@ -16,31 +16,32 @@ ghost use Rattle.qcow2_repair.specs.Leaks.{Figured, Laid, Leaking, mend_units};
 ghost use Rattle.qcow2_repair.specs.Mends.{mending_of};
 ghost use Rattle.qcow2_setcount.specs.Fixed.{fixes};
 
+use qcow2_spec::refusal::{Cause, Refusal};
 use qcow2_spec::{Geometry, Verdict};
-use units::Outcome;
+use units::Ended;
 
-// What a repair is to do: a number, nothing, or to set counts.
+// What a repair is to do.
 #[derive(Clone, Copy)]
 pub enum Mending {
-    Refuse(u8),
     Nothing,
     Counts,
 }
 
-// By the verdict: a damaged image is refused.
-pub fn find_mending(v: Verdict) -> Mending
+// By the verdict: a damaged image is refused, and a refused check hands its number on. No image's verdict is that (`unrefused` in proofs/Real.antt).
+#[tactic(auto, unfolding(crate::specs::Mends::mending_of))]
+pub fn find_mending(v: Verdict) -> Result<Mending, Refusal>
     ensures { result ≡ mending_of v }
 {
     match v {
-        Verdict::Sound => Mending::Nothing,
-        Verdict::Leaks(_) => Mending::Counts,
-        Verdict::BadL1(_, _) => Mending::Refuse(17),
-        Verdict::BadL2(_, _, _) => Mending::Refuse(17),
-        Verdict::Shared(_) => Mending::Refuse(17),
-        Verdict::Short(_) => Mending::Refuse(17),
-        Verdict::MarkL1(_) => Mending::Refuse(17),
-        Verdict::MarkL2(_, _) => Mending::Refuse(17),
-        Verdict::Refused(k) => Mending::Refuse(k),
+        Verdict::Sound => Ok(Mending::Nothing),
+        Verdict::Leaks(_) => Ok(Mending::Counts),
+        Verdict::BadL1(_, _) => Err(Cause::Damaged.into()),
+        Verdict::BadL2(_, _, _) => Err(Cause::Damaged.into()),
+        Verdict::Shared(_) => Err(Cause::Damaged.into()),
+        Verdict::Short(_) => Err(Cause::Damaged.into()),
+        Verdict::MarkL1(_) => Err(Cause::Damaged.into()),
+        Verdict::MarkL2(_, _) => Err(Cause::Damaged.into()),
+        Verdict::Refused(k) => Err(Refusal::of(k)),
     }
 }
 
@@ -67,16 +68,17 @@ fn group_of(g: Geometry, i: usize) -> usize
     ensures { (((1 ≤ result) × (i + result ≤ g.clusters)) × (i % per_of g + result ≤ per_of g)) × (result ≤ 4096) }
 {
     if g.order == 4 {
-        return power::lesser(qcow2_counts::run_of(g, i), 4096);
+        return qcow2_counts::run_of(g, i).min(4096);
     }
-    power::lesser(qcow2_counts::run_of(g, i), 512)
+    qcow2_counts::run_of(g, i).min(512)
 }
 
 // The counts of all clusters are to be refs.
-fn repair(image: &mut [u8], g: Geometry, refs: &[u8], allowance: usize) -> Outcome
+fn repair(image: &mut [u8], g: Geometry, refs: &[u8], allowance: usize) -> Ended
     requires { Laid g image.old × (g.clusters ≤ many refs.now) }
-    ensures { Done (planned (mend_units g image.old (figures_in refs.now) g.clusters)) allowance image.old result image.new }
+    ensures { Done (planned (mend_units g image.old (figures_in refs.now) g.clusters)) allowance image.old (Ok result) image.new }
 {
+    // A while: how far a turn goes is known only in it.
     let mut i = 0;
     let mut n = 0;
     while i < g.clusters {
@@ -88,9 +90,9 @@ fn repair(image: &mut [u8], g: Geometry, refs: &[u8], allowance: usize) -> Outco
 }
 
 // A leaking image, with the figures in refs: the clearing unit, then the counts. These lie apart from the header, so that the field makes no difference.
-fn store(image: &mut [u8], g: Geometry, refs: &[u8], allowance: usize) -> Outcome
+fn store(image: &mut [u8], g: Geometry, refs: &[u8], allowance: usize) -> Ended
     requires { Leaking g image.old refs.now }
-    ensures { Done (planned (clear_units image.old ++ repair_units image.old (figures_of image.old) 0 (clusters image.old))) allowance image.old result image.new }
+    ensures { Done (planned (clear_units image.old ++ repair_units image.old (figures_of image.old) 0 (clusters image.old))) allowance image.old (Ok result) image.new }
 {
     let left = qcow2_clear::clear(image, g, allowance);
     let r = repair(image, g, refs, left);
@@ -104,14 +106,12 @@ pub fn verdict_repair(
     v: Verdict,
     refs: &[u8],
     allowance: usize,
-) -> Outcome
+) -> Result<Ended, Refusal>
     requires { (Opened g image.old × Figured image.old refs.now) × (v ≡ verdict image.old) }
     ensures { Done (clearing image.old (verdict_plan image.old v)) allowance image.old result image.new }
 {
-    let m = find_mending(v);
-    match m {
-        Mending::Refuse(k) => Outcome::Refused(k),
-        Mending::Nothing => units::end_of(0, allowance),
-        Mending::Counts => store(image, g, refs, allowance),
+    match find_mending(v)? {
+        Mending::Nothing => Ok(units::end_of(0, allowance)),
+        Mending::Counts => Ok(store(image, g, refs, allowance)),
     }
 }

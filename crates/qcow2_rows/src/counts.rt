@@ -22,14 +22,12 @@ pub fn count_rows(
     ensures { (result ≤ k + g.clusters) × Puts (rows_of epoch (extents (repair_units image.now (figures_in refs.now) 0 g.clusters))) rows.old k rows.new result }
 {
     let mut r = k;
-    let mut i = 0;
-    while i < g.clusters {
+    for i in 0..g.clusters {
         let at = qcow2_counts::count_at(image, g, i);
         let stored = widths::load(image, g.order, at);
         if stored != endian::load16(refs, 2 * i) as u64 {
             r = put_count(rows, r, g.order, at, epoch);
         }
-        i += 1;
     }
     r
 }

@@ -1,6 +1,6 @@
 -- Runs that are stored one after the other.
 -- Assumes nothing.
-use Rattle.std.specs.Prelude.{if◌then◌else◌}
+use Rattle.std.specs.Prelude.{if◌then◌else◌, Err, Ok, Result}
 use Prim.Native.Nat.{ℕ, zero, suc, ◌+◌, ◌-◌, ◌*◌, ◌/◌, ◌≤◌, ◌<◌}
 use native.Mathlib.Nat.{add-zero, sub-zero}
 use native.Mathlib.Omega.{arith}
@@ -19,16 +19,15 @@ use Rattle.qcow2_spec.specs.Runs.{found_code, found_host, run_length, run_row, r
 use Rattle.qcow2_spec.specs.Opened.{Opened}
 use Rattle.qcow2_spec.specs.declared.Geometry.{Geometry}
 use Rattle.qcow2_spec.specs.declared.Found.{Found}
-use Rattle.qcow2_spec.specs.declared.Listed.TheVariants.{Refused, Rows}
 use Rattle.qcow2_spec.proofs.Runs.{run-most}
 
 -- ---- the numbers of a run, and of the runs after it
-length-row : (f : Found) (r : ℕ) → length (run_row f r) ≡ 3
+length-row : (f : Result Found ℕ) (r : ℕ) → length (run_row f r) ≡ 3
 unfolding run_row
 length-row f r = refl
 
 -- three stores, as one splice
-pub row-stored : (l : List ℕ) (at : ℕ) (f : Found) (r : ℕ) → at + 3 ≤ length l → set (set (set l at (found_code f)) (at + 1) (found_host f)) (at + 2) r ≡ splice l at (run_row f r)
+pub row-stored : (l : List ℕ) (at : ℕ) (f : Result Found ℕ) (r : ℕ) → at + 3 ≤ length l → set (set (set l at (found_code f)) (at + 1) (found_host f)) (at + 2) r ≡ splice l at (run_row f r)
 unfolding run_row
 row-stored l at f r h = rw (set-two l at (found_code f) (found_host f) (omega arith)) (splice-more l at 2 (found_code f ∷ found_host f ∷ []) r refl (omega arith))
 
@@ -121,13 +120,13 @@ module _ (g : Geometry) (s : List ℕ) (o : Opened g s) (x len : ℕ) where
   outside-is = rw (lt-leb (roots s) g.root o.there, ← o.is-size) (past_is g.size x len)
 
   module _ (h : ltb g.size (x + len) ≡ true) (out : List ℕ) where
-    pub past-refused : (Refused 11 ≡ runs_listed s g.root x len (length out / 3)) × (out ≡ runs_put s g.root x len out)
+    pub past-refused : (Err 11 ≡ runs_listed s g.root x len (length out / 3)) × (out ≡ runs_put s g.root x len out)
     unfolding runs_listed runs_put
     past-refused = (rw (outside-is, h), rw (outside-is, h))
 
   module _ (h : ltb g.size (x + len) ≡ false) (out : List ℕ) where
     pub runs-listed : (k : ℕ) → 3 * k ≡ length (run_rows s g.root x len (length out / 3)) → (t : List ℕ) → t ≡ splice out 0 (run_rows s g.root x len (length out / 3))
-        → (Rows k ≡ runs_listed s g.root x len (length out / 3)) × (t ≡ runs_put s g.root x len out)
+        → (Ok k ≡ runs_listed s g.root x len (length out / 3)) × (t ≡ runs_put s g.root x len out)
     unfolding runs_listed runs_put
     runs-listed k e t d =
         let c : k ≡ length (run_rows s g.root x len (length out / 3)) / 3 = omega arith in

@@ -8,13 +8,22 @@ ghost use Rattle.qcow2_spec.specs.Runs.{run_length, run_row, run_rows, runs_list
 ghost use Rattle.qcow2_spec.specs.Opened.{Opened};
 ghost use Rattle.qcow2_runs.specs.Ends.{run_from};
 
-use qcow2_spec::{Found, Geometry, Listed};
+use qcow2_spec::refusal::{Cause, Refusal};
+use qcow2_spec::{Found, Geometry};
 
 // Where the run from x ends, of whose len bytes i0 are known and end with a guest cluster.
-fn next_rows(image: &[u8], g: Geometry, x: u64, f: Found, i0: u64, len: u64) -> u64
-    requires { ((Opened g image.now) × (f ≡ located image.now g.root x)) × (((i0 ≤ len) × (x + len ≤ reach image.now g.root)) × (i0 < len → (x + i0) % 2 ^ g.bits ≡ 0)) }
+fn next_rows(
+    image: &[u8],
+    g: Geometry,
+    x: u64,
+    f: &Result<Found, Refusal>,
+    i0: u64,
+    len: u64,
+) -> u64
+    requires { ((Opened g image.now) × (f.now ≡ located image.now g.root x)) × (((i0 ≤ len) × (x + len ≤ reach image.now g.root)) × (i0 < len → (x + i0) % 2 ^ g.bits ≡ 0)) }
     ensures { result ≡ run_from image.now g.root x i0 (len - i0) }
 {
+    // A while: how far a turn goes is known only in it.
     let mut i = i0;
     while i < len {
         let m = qcow2_guest::row_left(x + i, (len - i) as usize, g.bits) as u64;
@@ -28,8 +37,8 @@ fn next_rows(image: &[u8], g: Geometry, x: u64, f: Found, i0: u64, len: u64) -> 
 }
 
 // How many of the len bytes from x on go on alike. Those of its guest cluster do.
-fn run_length(image: &[u8], g: Geometry, x: u64, f: Found, len: u64) -> u64
-    requires { ((Opened g image.now) × (f ≡ located image.now g.root x)) × (x + len ≤ reach image.now g.root) }
+fn run_length(image: &[u8], g: Geometry, x: u64, f: &Result<Found, Refusal>, len: u64) -> u64
+    requires { ((Opened g image.now) × (f.now ≡ located image.now g.root x)) × (x + len ≤ reach image.now g.root) }
     ensures { result ≡ run_length image.now g.root x len }
 {
     let first = qcow2_guest::piece(x, len as usize, g.bits) as u64;
@@ -37,9 +46,9 @@ fn run_length(image: &[u8], g: Geometry, x: u64, f: Found, len: u64) -> u64
 }
 
 // Stores a run as three numbers.
-fn put_row(rows: &mut [u64], at: usize, f: Found, r: u64)
+fn put_row(rows: &mut [u64], at: usize, f: &Result<Found, Refusal>, r: u64)
     requires { at + 3 ≤ length rows.old }
-    ensures { rows.new ≡ splice rows.old at (run_row f r) }
+    ensures { rows.new ≡ splice rows.old at (run_row f.now r) }
 {
     rows[at] = qcow2_alike::codes::found_code(f) as u64;
     rows[at + 1] = qcow2_alike::codes::found_host(f);
@@ -53,8 +62,8 @@ fn next_run(image: &[u8], g: Geometry, x: u64, len: u64, rows: &mut [u64], at: u
 {
     let w = qcow2_stretch::row_at(image, g, power::quotient(x, g.bits));
     let f = qcow2_stretch::found_in(image, g, w, x);
-    let r = run_length(image, g, x, f, len);
-    put_row(rows, at, f, r);
+    let r = run_length(image, g, x, &f, len);
+    put_row(rows, at, &f, r);
     r
 }
 
@@ -65,24 +74,28 @@ fn store_runs(image: &[u8], g: Geometry, x: u64, len: u64, rows: &mut [u64]) -> 
 {
     let room = rows.len() / 3;
     let mut done = 0;
-    let mut k = 0;
-    while k < room {
+    for k in 0..room {
         if done == len {
             return k;
         }
         done += next_run(image, g, x + done, len - done, rows, 3 * k);
-        k += 1;
     }
-    k
+    room
 }
 
 // Lists the runs of the len bytes from x on. Refused, the output is left alone.
-pub fn listed(image: &[u8], g: Geometry, x: u64, len: u64, rows: &mut [u64]) -> Listed
+pub fn listed(
+    image: &[u8],
+    g: Geometry,
+    x: u64,
+    len: u64,
+    rows: &mut [u64],
+) -> Result<usize, Refusal>
     requires { Opened g image.now }
     ensures { (result ≡ runs_listed image.now g.root x len (length rows.old / 3)) × (rows.new ≡ runs_put image.now g.root x len rows.old) }
 {
     if power::past(g.size, x, len) {
-        return Listed::Refused(11);
+        return Err(Cause::Range.into());
     }
-    Listed::Rows(store_runs(image, g, x, len, rows))
+    Ok(store_runs(image, g, x, len, rows))
 }

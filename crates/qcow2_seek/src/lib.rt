@@ -46,30 +46,21 @@ pub fn search(
     requires { (Opened g image.now × Marked marks image.now scratch.now g.root g.clusters g.l1size) × ((from ≤ g.l1size) × (UnharmedTo image.now (seek_of marks image.now (twos scratch.now 0 g.clusters) g.root) g.root from × BelowTo image.now (seek_of marks image.now (twos scratch.now 0 g.clusters) g.root) g.root from first)) }
     ensures { result ≡ l1_verdict image.now (seek_of marks image.now (twos scratch.now 0 g.clusters) g.root) 0 (l1_entries image.now g.root) Sound }
 {
-    let rows = g.l1size;
-    let mut i = from;
-    let mut j = first;
-    let mut below = false;
-    'outer: while i < rows {
+    let mut found = Verdict::Sound;
+    let mut known = first;
+    'outer: for i in from..g.l1size {
         if qcow2_fails::row_fails(image, scratch, i, g, marks) {
+            found = name_row(g.root, i, marks);
             break 'outer;
         }
         let end = qcow2_fails::below_count(image, i, g);
-        while j < end {
+        for j in known..end {
             if qcow2_fails::below_fails(image, scratch, i, j, g, marks) {
-                below = true;
+                found = name_below(g.root, i, j, marks);
                 break 'outer;
             }
-            j += 1;
         }
-        i += 1;
-        j = 0;
+        known = 0;
     }
-    if below {
-        return name_below(g.root, i, j, marks);
-    }
-    if i < rows {
-        return name_row(g.root, i, marks);
-    }
-    Verdict::Sound
+    found
 }

@@ -46,11 +46,9 @@ pub fn repair_each(
     let width = power::power(order) as usize;
     let m = refs.len() / 2;
     let mut spent = n;
-    let mut j = 0;
-    while j < m {
+    for j in 0..m {
         let want = endian::load16(refs, 2 * j) as u64;
         spent = repair_count(image, order, at + width * j, want, spent, allowance);
-        j += 1;
     }
     spent
 }

@@ -4,9 +4,11 @@
 ghost use Rattle.std.specs.Prelude.{◌≡◌, suc, ◌^◌, ◌≤◌, ◌<◌, ltb, length};
 ghost use Rattle.choice.specs.Pick.{first};
 ghost use Rattle.qcow2_spec.specs.Header.{most_bits, most_length, cluster_size, snapshots as shots, snapshots_at, snapshot_at, bad_snapshot, snapshot_number, roots, root_size};
+ghost use Rattle.qcow2_spec.specs.Causes.{answer};
 ghost use Rattle.qcow2_spec.specs.Opened.{Opened, Active};
 
 use qcow2_spec::Geometry;
+use qcow2_spec::refusal::{Cause, Refusal};
 
 mod entry;
 
@@ -15,33 +17,31 @@ fn some_bad(image: &[u8], count: usize, at: usize, bits: u32) -> bool
     requires { ((length image.now ≤ most_length) × (bits ≤ most_bits)) × ((cluster_size image.now ≡ 2 ^ bits) × (at ≡ snapshots_at image.now)) }
     ensures { result ≡ ltb (first (bad_snapshot image.now) 0 count) count }
 {
-    let mut k = 0;
     let mut p = at;
-    while k < count {
+    for _k in 0..count {
         if entry::bad_entry(image, p, bits) {
             return true;
         }
         p = entry::entry_end(image, p);
-        k += 1;
     }
     false
 }
 
 // 21: the snapshot table, of any bytes whose header gives these numbers.
-pub fn snapshot_number(image: &[u8], count: usize, at: usize, bits: u32) -> u8
+pub fn check_snapshots(image: &[u8], count: usize, at: usize, bits: u32) -> Result<(), Refusal>
     requires { ((length image.now ≤ most_length) × (bits ≤ most_bits)) × ((cluster_size image.now ≡ 2 ^ bits) × ((count ≡ shots image.now) × (at ≡ snapshots_at image.now))) }
-    ensures { result ≡ snapshot_number image.now }
+    ensures { result ≡ answer (snapshot_number image.now) }
 {
     if count == 0 {
-        return 0;
+        return Ok(());
     }
     if power::rest(at as u64, bits) != 0 {
-        return 21;
+        return Err(Cause::Snapshots.into());
     }
     if some_bad(image, count, at, bits) {
-        return 21;
+        return Err(Cause::Snapshots.into());
     }
-    0
+    Ok(())
 }
 
 // The place of an entry, or after the last one.
@@ -50,10 +50,8 @@ pub fn place_of(image: &[u8], g: Geometry, k: usize) -> usize
     ensures { result ≡ snapshot_at image.now k }
 {
     let mut p = g.snapshotsat;
-    let mut i = 0;
-    while i < k {
+    for _i in 0..k {
         p = entry::entry_end(image, p);
-        i += 1;
     }
     p
 }
@@ -91,20 +89,11 @@ pub fn snapshot_root(image: &[u8], g: Geometry, k: usize) -> Geometry
     let l1size = endian::load32(image, at + 8) as usize;
     let c = power::power(g.bits);
     Geometry {
-        version: g.version,
-        bits: g.bits,
-        order: g.order,
-        clusters: g.clusters,
         root: k + 1,
         size: l1size as u64 * (c / 8) * c,
         l1size,
         l1at: endian::load64(image, at) as usize,
-        tableat: g.tableat,
-        tableclusters: g.tableclusters,
-        blocks: g.blocks,
-        snapshots: g.snapshots,
-        snapshotsat: g.snapshotsat,
-        backed: g.backed,
+        ..g
     }
 }
 

@@ -1,4 +1,5 @@
 -- With no backing file, that is with a backing offset of 0, the bytes that are lent change nothing, and the lists of units are 01's. Assumes nothing.
+use Rattle.std.specs.Prelude.{Err, Ok, Result}
 use Prim.Native.Nat.{ℕ, zero, suc, ◌+◌, ◌-◌, ◌*◌, ◌≤◌}
 use native.Mathlib.Omega.{arith}
 use mathlib.Core.Path.{◌≡◌, refl, sym, ap, ap₂, ◌∙◌, subst, fun_ext}
@@ -13,9 +14,9 @@ use Rattle.units.specs.Units.{cluster}
 use Rattle.qcow2_spec.specs.Header.{cluster_size, clusters, disk_size, backing_offset, backed, backing_number, judge_lent, judge}
 use Rattle.qcow2_spec.specs.Guest.{translate, backing_byte, found_byte, located, guest_byte, guest_bytes, range_into, read_number, read_into, in_place}
 use Rattle.qcow2_spec.specs.declared.Found.{Found}
-use Rattle.qcow2_spec.specs.declared.Found.TheVariants.{Host, Zeros, Absent, Refused}
+use Rattle.qcow2_spec.specs.declared.Found.TheVariants.{Host, Zeros, Absent}
 use Rattle.qcow2_spec.specs.declared.Way.{Way}
-use Rattle.qcow2_spec.specs.declared.Way.TheVariants.{Bad, NoTable, Slot}
+use Rattle.qcow2_spec.specs.declared.Way.TheVariants.{NoTable, Slot}
 use Rattle.qcow2_spec.specs.Store.{judged, backing_cluster, new_bytes, write_slot, write_way, write_list, write_plan, cleared_entry, discard_plan}
 use Rattle.qcow2_spec.specs.References.{scratch_left}
 use Rattle.qcow2_spec.specs.Check.{check, repair_plan}
@@ -83,11 +84,11 @@ module _ (s : List ℕ) (none : backing_offset s ≡ 0) where
     unfolding guest_byte found_byte backing_byte
     guest_alone t x = go (located s t x)
       where
-        go : (w : Found) → found_byte backing s x w ≡ found_byte [] s x w
-        go (Host h) = refl
-        go Zeros = refl
-        go Absent = rw backed-alone refl
-        go (Refused k) = refl
+        go : (w : Result Found ℕ) → found_byte backing s x w ≡ found_byte [] s x w
+        go (Ok (Host h)) = refl
+        go (Ok Zeros) = refl
+        go (Ok Absent) = rw backed-alone refl
+        go (Err k) = refl
 
     pub number-alone : (t x len : ℕ) → read_number backing s t x len ≡ read_number [] s t x len
     unfolding read_number
@@ -128,11 +129,11 @@ module _ (s : List ℕ) (none : backing_offset s ≡ 0) where
     same-cluster : (g : ℕ) → backing_cluster backing s g ≡ backing_cluster [] s g
     same-cluster g = cluster-alone backing g ∙ sym (cluster-alone [] g)
 
-    way-alone : (w : Way) (g o : ℕ) (d : List ℕ) → write_way backing s w g o d ≡ write_way [] s w g o d
+    way-alone : (w : Result Way ℕ) (g o : ℕ) (d : List ℕ) → write_way backing s w g o d ≡ write_way [] s w g o d
     unfolding write_way write_slot new_bytes
-    way-alone (Bad k) g o d = refl
-    way-alone NoTable g o d = rw (same-cluster g) refl
-    way-alone (Slot a e) g o d = rw (same-cluster g) refl
+    way-alone (Err k) g o d = refl
+    way-alone (Ok NoTable) g o d = rw (same-cluster g) refl
+    way-alone (Ok (Slot a e)) g o d = rw (same-cluster g) refl
 
     -- the call's list
     pub plan_alone : (r : Request) → plan_of backing s r ≡ plan_of [] s r

@@ -1,6 +1,6 @@
 -- A read is refused as its bytes are, a translation as the read of its byte is, and a read is accepted exactly where none of its bytes is
 -- refused. Assumes nothing.
-use Rattle.std.specs.Prelude.{if◌then◌else◌}
+use Rattle.std.specs.Prelude.{if◌then◌else◌, Err, Ok, Result}
 use Prim.Native.Nat.{ℕ, zero, suc, ◌+◌, ◌-◌, ◌*◌, ◌/◌, ◌%◌, ◌≤◌, ◌<◌}
 use native.Mathlib.Nat.{le-div_iff_mul-le, div-lt_iff_lt-mul, div-mul-le_self, lt-div-mul-add, suc-ne-zero, zero-lt-suc}
 use native.Mathlib.Omega.{arith}
@@ -19,9 +19,9 @@ use Rattle.qcow2_spec.specs.Entries.{place, good_l1, good_l2, compressed, zero_m
 use Rattle.qcow2_spec.specs.Guest.{l1_entry, entry_way, l2_way, way, entry_gives, way_gives, way_number, ways_number, located, translated, translate, found_byte, guest_byte, guest_bytes, reach, outside, touched, range_number, range_into, read_number, read_into}
 use Rattle.qcow2_spec.specs.Bytewise.{refusal, bytes_number, bytewise, bytewise_into, Bytewise}
 use Rattle.qcow2_spec.specs.declared.Found.{Found}
-use Rattle.qcow2_spec.specs.declared.Found.TheVariants.{Host, Zeros, Absent, Refused}
+use Rattle.qcow2_spec.specs.declared.Found.TheVariants.{Host, Zeros, Absent}
 use Rattle.qcow2_spec.specs.declared.Way.{Way}
-use Rattle.qcow2_spec.specs.declared.Way.TheVariants.{Bad, NoTable, Slot}
+use Rattle.qcow2_spec.specs.declared.Way.TheVariants.{NoTable, Slot}
 use Rattle.qcow2_spec.proofs.Facts.{facts, accepted_lent, c_pos, unless-zero}
 
 -- ---- guest clusters of C bytes
@@ -72,13 +72,13 @@ unless-twice zero r = refl
 unless-twice (suc n) r = refl
 
 -- a translation is refused as its way is
-gives-number : (w : Way) (o : ℕ) → refusal (way_gives w o) ≡ way_number w
+gives-number : (w : Result Way ℕ) (o : ℕ) → refusal (way_gives w o) ≡ way_number w
 unfolding refusal way_gives entry_gives way_number
-gives-number (Bad k) o = refl
-gives-number NoTable o = refl
-gives-number (Slot a e) o =
-    if_elim (λ (f : Found). refusal f ≡ 0) (zero_mark e) _ _ (λ h. refl)
-    (λ h. if_elim (λ (f : Found). refusal f ≡ 0) (eqb (place e) 0) _ _ (λ z. refl) (λ z. refl))
+gives-number (Err k) o = refl
+gives-number (Ok NoTable) o = refl
+gives-number (Ok (Slot a e)) o =
+    if_elim (λ (f : Found). refusal (Ok f) ≡ 0) (zero_mark e) _ _ (λ h. refl)
+    (λ h. if_elim (λ (f : Found). refusal (Ok f) ≡ 0) (eqb (place e) 0) _ _ (λ z. refl) (λ z. refl))
 
 module _ (s : List ℕ) (ok : judge_lent true s ≡ 0) where
   abbrev C : ℕ
@@ -140,12 +140,12 @@ inside_disk s t x len e =
     (leb-false _ _ o.0, ltb-false _ _ o.1)
 
 -- what is refused reads as zeros
-refused-zero : (backing s : List ℕ) (x : ℕ) (f : Found) → refusal f ≢ 0 → found_byte backing s x f ≡ 0
+refused-zero : (backing s : List ℕ) (x : ℕ) (f : Result Found ℕ) → refusal f ≢ 0 → found_byte backing s x f ≡ 0
 unfolding refusal found_byte
-refused-zero backing s x (Host h) n = absurd (n refl)
-refused-zero backing s x Zeros n = refl
-refused-zero backing s x Absent n = absurd (n refl)
-refused-zero backing s x (Refused k) n = refl
+refused-zero backing s x (Ok (Host h)) n = absurd (n refl)
+refused-zero backing s x (Ok Zeros) n = refl
+refused-zero backing s x (Ok Absent) n = absurd (n refl)
+refused-zero backing s x (Err k) n = refl
 
 unless-none : (n : ℕ) → unless n (λ k. k) 0 ≡ n
 unless-none zero = refl
@@ -190,11 +190,11 @@ module _ (backing s : List ℕ) where
   unfolding translate translated
   translate-inside x e l = rw e (if_no (leb (disk_size s) x) _ _ (lt-leb _ _ l))
 
-  pub translate-refused : (x j : ℕ) → judge backing s ≡ suc j → translate backing s x ≡ Refused (suc j)
+  pub translate-refused : (x j : ℕ) → judge backing s ≡ suc j → translate backing s x ≡ Err (suc j)
   unfolding translate
   translate-refused x j e = rw e
 
-  pub translate-past : (x : ℕ) → judge backing s ≡ 0 → disk_size s ≤ x → translate backing s x ≡ Refused 11
+  pub translate-past : (x : ℕ) → judge backing s ≡ 0 → disk_size s ≤ x → translate backing s x ≡ Err 11
   unfolding translate translated
   translate-past x e l = rw e (if_yes (leb (disk_size s) x) _ _ (le-leb _ _ l))
 
@@ -223,7 +223,7 @@ module _ (backing s : List ℕ) where
   translate-read x r =
       into_number 0 x (0 ∷ [])
       ∙ if_elim (λ (l : List ℕ). l ≡ found_byte backing s x (translate backing s x) ∷ []) (eqb (read_number backing s 0 x 1) 0) _ _
-      (λ e. let p = accepted_range 0 x 1 (eqb-true _ _ e) in ap (λ (f : Found). found_byte backing s x f ∷ []) (sym (translate-inside x p.0 (omega (arith, p.2)))))
+      (λ e. let p = accepted_range 0 x 1 (eqb-true _ _ e) in ap (λ (f : Result Found ℕ). found_byte backing s x f ∷ []) (sym (translate-inside x p.0 (omega (arith, p.2)))))
       (λ e. ap (λ (y : ℕ). y ∷ []) (sym (refused-zero backing s x (translate backing s x) (λ z. eqb-false _ _ e (sym r ∙ z)))))
 
 pub read-bytewise : Bytewise
@@ -233,16 +233,16 @@ read-bytewise backing s x =
 
 -- ---- where a read is accepted
 -- a number other than 0
-unfoldable pub Numbered : Found → Type 0
-Numbered (Host h) = Unit {0}
-Numbered Zeros = Unit {0}
-Numbered Absent = Unit {0}
-Numbered (Refused k) = k ≢ 0
+unfoldable pub Numbered : Result Found ℕ → Type 0
+Numbered (Ok (Host h)) = Unit {0}
+Numbered (Ok Zeros) = Unit {0}
+Numbered (Ok Absent) = Unit {0}
+Numbered (Err k) = k ≢ 0
 
-unfoldable WayNumbered : Way → Type 0
-WayNumbered (Bad k) = k ≢ 0
-WayNumbered NoTable = Unit {0}
-WayNumbered (Slot a e) = Unit {0}
+unfoldable WayNumbered : Result Way ℕ → Type 0
+WayNumbered (Err k) = k ≢ 0
+WayNumbered (Ok NoTable) = Unit {0}
+WayNumbered (Ok (Slot a e)) = Unit {0}
 
 way_numbered : (s : List ℕ) (t g : ℕ) → WayNumbered (way s t g)
 unfolding WayNumbered way l2_way entry_way
@@ -255,11 +255,11 @@ way_numbered s t g =
     entry : List ℕ → ℕ → ℕ → ℕ
     entry s t g = be64 (part s (place (l1_entry s t g)) (cluster_size s)) (8 * (g % per_table s))
 
-gives_numbered : (w : Way) (o : ℕ) → WayNumbered w → Numbered (way_gives w o)
+gives_numbered : (w : Result Way ℕ) (o : ℕ) → WayNumbered w → Numbered (way_gives w o)
 unfolding Numbered WayNumbered way_gives entry_gives
-gives_numbered (Bad k) o h = h
-gives_numbered NoTable o h = tt
-gives_numbered (Slot a e) o h = if_elim Numbered (zero_mark e) _ _ (λ z. tt) (λ z. if_elim Numbered (eqb (place e) 0) _ _ (λ p. tt) (λ p. tt))
+gives_numbered (Err k) o h = h
+gives_numbered (Ok NoTable) o h = tt
+gives_numbered (Ok (Slot a e)) o h = if_elim (λ f. Numbered (Ok f)) (zero_mark e) _ _ (λ z. tt) (λ z. if_elim (λ f. Numbered (Ok f)) (eqb (place e) 0) _ _ (λ p. tt) (λ p. tt))
 
 -- what is refused has a number
 pub numbered : (s : List ℕ) (t x : ℕ) → Numbered (located s t x)
@@ -267,21 +267,21 @@ unfolding located
 numbered s t x = gives_numbered (way s t (x / cluster_size s)) (x % cluster_size s) (way_numbered s t (x / cluster_size s))
 
 -- it is no refusal
-abbrev pub Taken : Found → Type 0
-Taken f = (k : ℕ) → f ≡ Refused k → ⊥
+abbrev pub Taken : Result Found ℕ → Type 0
+Taken f = (k : ℕ) → f ≡ Err k → ⊥
 
-taken : (f : Found) → Numbered f → (refusal f ≡ 0) ↔ Taken f
+taken : (f : Result Found ℕ) → Numbered f → (refusal f ≡ 0) ↔ Taken f
 unfolding Numbered refusal
 taken f n = (there, back f)
   where
     there : refusal f ≡ 0 → Taken f
     there e k q = subst Numbered q n (ap refusal (sym q) ∙ e)
 
-    back : (f : Found) → Taken f → refusal f ≡ 0
-    back (Host h) t = refl
-    back Zeros t = refl
-    back Absent t = refl
-    back (Refused k) t = absurd (t k refl)
+    back : (f : Result Found ℕ) → Taken f → refusal f ≡ 0
+    back (Ok (Host h)) t = refl
+    back (Ok Zeros) t = refl
+    back (Ok Absent) t = refl
+    back (Err k) t = absurd (t k refl)
 
 bytes-zero : (s : List ℕ) (t len x : ℕ) → bytes_number s t x len ≡ 0 → (y : ℕ) → x ≤ y → y < x + len → refusal (located s t y) ≡ 0
 unfolding bytes_number

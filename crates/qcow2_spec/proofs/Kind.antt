@@ -1,5 +1,5 @@
 -- What kind of call a list of units is: on an image that is sound or leaking every list that is not refused is of one of eight kinds, with what is so of the image. Assumes nothing.
-use Rattle.std.specs.Prelude.{if◌then◌else◌}
+use Rattle.std.specs.Prelude.{if◌then◌else◌, Err, Ok, Result}
 use Prim.Native.Nat.{ℕ, ◌+◌, ◌-◌, ◌*◌, ◌/◌, ◌%◌, ◌^◌, ◌≤◌, ◌<◌}
 use native.Mathlib.Nat.{zero-lt-suc, zero-div, div-lt_iff_lt-mul, mod-lt, lt_of_mul-lt-mul_right}
 use native.Mathlib.Decide.{ℕ_discrete}
@@ -22,7 +22,7 @@ use Rattle.qcow2_spec.specs.Header.{most_l1, version, cluster_size, clusters, di
 use Rattle.qcow2_spec.specs.Entries.{place, zero_mark, good_l2, new_entry}
 use Rattle.qcow2_spec.specs.Counts.{count_of, free_at, free_from, set_count}
 use Rattle.qcow2_spec.specs.declared.Way.{Way}
-use Rattle.qcow2_spec.specs.declared.Way.TheVariants.{Bad as bad, NoTable as no_table, Slot as slot}
+use Rattle.qcow2_spec.specs.declared.Way.TheVariants.{NoTable as no_table, Slot as slot}
 use Rattle.qcow2_spec.specs.Guest.{backing_byte, outside, l1_entry_at}
 use Rattle.units.specs.Plan.{Plan, refused, units}
 use Rattle.units.specs.Units.{UnitStore, entry, cluster, fill}
@@ -270,12 +270,12 @@ module _ (backing s : List ℕ) (f : Facts s) where
           bytes : D (x / cluster_size s) ≡ 0 → Whole x d (if eqb (e % 2) 1 then cluster (cluster_size s) (x % cluster_size s) d else splice (backing_cluster backing s (x / cluster_size s)) (x % cluster_size s) d)
           bytes z = if_elim (Whole x d) (eqb (e % 2) 1) _ _ (λ b. whole-zeros (marked b)) (λ b. whole_backing bb (λ y. bare-read (x / cluster_size s) y z (plain b)))
 
-      way_kind : (w : Way) → x / cluster_size s / per_table s < root_size s 0 → OwnIs s f (x / cluster_size s) w → KindOf (write x d) (write_way backing s w (x / cluster_size s) (x % cluster_size s) d)
+      way_kind : (w : Result Way ℕ) → x / cluster_size s / per_table s < root_size s 0 → OwnIs s f (x / cluster_size s) w → KindOf (write x d) (write_way backing s w (x / cluster_size s) (x % cluster_size s) d)
       unfolding OwnIs write_way
-      way_kind (bad n) l h = refused_kind (write x d) n
-      way_kind no_table l h =
+      way_kind (Err n) l h = refused_kind (write x d) n
+      way_kind (Ok no_table) l h =
           table_kind_lem (free_from s 0) (free_from s (free_from s 0 + 1)) _ h (λ l. omega (arith, (free-is (free_from s 0 + 1) l).0)) (λ l. (free-is 0 l).1) (λ l. (free-is (free_from s 0 + 1) l).1) (whole_backing bb (λ y. absent-read (x / cluster_size s) y h))
-      way_kind (slot a e) l h = slot_kind a e l h
+      way_kind (Ok (slot a e)) l h = slot_kind a e l h
 
   no_bytes : (x : ℕ) (d : List ℕ) → length d ≡ 0 → KindOf (write x d) (units [])
   unfolding SameDisk Exact KindOf
@@ -329,12 +329,12 @@ module _ (backing s : List ℕ) (f : Facts s) where
           go (inl q) (yes n) = absurd (q (ap (λ (v : ℕ). v % 2) (sym z) ∙ sym (mark_own s f 0 c a e h) ∙ n))
           go (inr q) (yes n) = bare-read c y (dat_zero s f 0 c a e h (ap place z ∙ cleared_entry-place s)) n ∙ q
 
-  discard-way_kind : (c : ℕ) → c / per_table s < root_size s 0 → (w : Way) → OwnIs s f c w → KindOf (discard c) (discard_way s w)
+  discard-way_kind : (c : ℕ) → c / per_table s < root_size s 0 → (w : Result Way ℕ) → OwnIs s f c w → KindOf (discard c) (discard_way s w)
   unfolding OwnIs discard_way
-  discard-way_kind c l (bad n) h = refused_kind (discard c) n
-  discard-way_kind c l no_table h =
+  discard-way_kind c l (Err n) h = refused_kind (discard c) n
+  discard-way_kind c l (Ok no_table) h =
       if_elim (KindOf (discard c)) (backed s) _ _ (λ b. refused_kind (discard c) 20) (λ b. zeros_kind c (λ y. absent-read c y h ∙ beneath_none b c y))
-  discard-way_kind c l (slot a e) h = if_elim (KindOf (discard c)) (backed s && eqb (version s) 2) _ _ (λ b. refused_kind (discard c) 20) (λ b. drop_kind c a e l b h)
+  discard-way_kind c l (Ok (slot a e)) h = if_elim (KindOf (discard c)) (backed s && eqb (version s) 2) _ _ (λ b. refused_kind (discard c) 20) (λ b. drop_kind c a e l b h)
 
   discard_kind : Sound (geo s) (code s) (m backing s f) → (c : ℕ) → KindOf (discard c) (discard_list s c)
   unfolding discard_list

@@ -33,3 +33,4 @@ pub mod Places
 pub mod Visits
 pub mod Walked
 pub mod Alone
+pub mod Answered

@@ -1,4 +1,5 @@
 -- Every call's list of units, cut between any two flushes with any of the units there stored, keeps the image sound or leaking and feeds the plain disk as the rules say. Assumes nothing.
+use Rattle.std.specs.Prelude.{Ok as ok}
 use Prim.Native.Nat.{ℕ, ◌+◌, ◌-◌, ◌*◌, ◌/◌, ◌%◌, ◌<◌}
 use native.Mathlib.Nat.{zero-mul, zero-add, div-eq_of_lt, mod-lt}
 use native.Mathlib.Omega.{arith}
@@ -30,7 +31,7 @@ use Rattle.qcow2_spec.specs.Guest.{l1_entry_at}
 use Rattle.qcow2_spec.specs.Store.{clear_units, clearing, allot, cleared_entry}
 use Rattle.qcow2_spec.specs.References.{figures_of}
 use Rattle.qcow2_spec.specs.Check.{repair_units}
-use Rattle.units.specs.declared.Outcome.TheVariants.{Stopped}
+use Rattle.units.specs.declared.Ended.TheVariants.{Stopped}
 use Rattle.qcow2_spec.specs.Disk.{Request, write, discard, repair, plan_of, finished, SameDisk, Fed}
 use Rattle.qcow2_spec.specs.Flush.{stores_entry, halves, epochs, picked}
 use Rattle.qcow2_spec.specs.Series.{ClearedFirst, Bytes, BytesOf}
@@ -81,7 +82,7 @@ module _ (backing s : List ℕ) (f : Facts s) where
 
   -- ---- what a plan must do
   abbrev pub Mid : Request → Bool → List ℕ → Type 0
-  Mid r b t = Kept backing s f t × ((u : ℕ) → Fed (Stopped u) b (disk_size s) (seen backing s f s) (finished (cluster_size s) r (seen backing s f s)) (seen backing s f t)) × Shots backing s f t
+  Mid r b t = Kept backing s f t × ((u : ℕ) → Fed (ok (Stopped u)) b (disk_size s) (seen backing s f s) (finished (cluster_size s) r (seen backing s f s)) (seen backing s f t)) × Shots backing s f t
 
   abbrev pub End : Request → List ℕ → Type 0
   End r t = Kept backing s f t × (SameDisk (disk_size s) (seen backing s f t) (finished (cluster_size s) r (seen backing s f s)) × Exact backing s f r t) × Shots backing s f t
@@ -159,7 +160,7 @@ module _ (backing s : List ℕ) (f : Facts s) where
     unfolding SameDisk
     mid_cleared r b h = (
       (cleared s f m t k).0,
-      λ u. fed-same (disk_size s) _ _ _ _ _ _ (λ y l. refl) (λ y l. refl) (λ y l. sym (cleared_seen y l)) (Stopped u) b (h.1 u),
+      λ u. fed-same (disk_size s) _ _ _ _ _ _ (λ y l. refl) (λ y l. refl) (λ y l. sym (cleared_seen y l)) (ok (Stopped u)) b (h.1 u),
       λ a b x l n p q. quiet.reads a b x l p q ∙ h.2 a b x l n p q,
     )
 
@@ -317,7 +318,7 @@ module _ (backing s : List ℕ) (f : Facts s) where
           fine_by (write x d) us us [] _ [] (MidP (geo s) (code s) (geo_ok s f) m u i j o d s) Written (halves-none us (fill-plain at d)) (like_fill (cluster_size s) at (D backing s f (x / cluster_size s)) o d e sp.in_cluster dn) none each_none
           (λ t h. (
             h.0,
-            λ n. subst (λ (b : Bool). Fed (Stopped n) b (disk_size s) (seen backing s f s) (finished (cluster_size s) (write x d) (seen backing s f s)) (seen backing s f t)) (sym (fill_quiet at d)) (part_rd backing s f t x d sp.in_cluster h.1),
+            λ n. subst (λ (b : Bool). Fed (ok (Stopped n)) b (disk_size s) (seen backing s f s) (finished (cluster_size s) (write x d) (seen backing s f s)) (seen backing s f t)) (sym (fill_quiet at d)) (part_rd backing s f t x d sp.in_cluster h.1),
             wrote_shots backing s f t u i j o h.1.bytes i_m h.1.wrote,
           ))
           (λ t h. (h.0, (wrote_rd backing s f t x d sp.in_cluster h.1, tt), wrote_shots backing s f t u i j o d i_m h.1))

@@ -1,6 +1,7 @@
 -- What a run is: each of its bytes is found where it has it, it is not empty, and it ends where a byte does not go on alike. With room
 -- enough the runs of a range are all of it.
 -- Assumes nothing.
+use Rattle.std.specs.Prelude.{Err, Ok, Result}
 use Prim.Native.Nat.{ℕ, zero, suc, ◌+◌, ◌-◌, ◌≤◌, ◌<◌}
 use native.Mathlib.Nat.{add-zero}
 use native.Mathlib.Omega.{arith}
@@ -14,27 +15,27 @@ use Rattle.choice.proofs.Tests.{true-not-false}
 use Rattle.qcow2_spec.specs.Guest.{located}
 use Rattle.qcow2_spec.specs.Runs.{moved, same_found, goes_on, run_length, run_row, run_rows}
 use Rattle.qcow2_spec.specs.declared.Found.{Found}
-use Rattle.qcow2_spec.specs.declared.Found.TheVariants.{Host, Zeros, Absent, Refused}
+use Rattle.qcow2_spec.specs.declared.Found.TheVariants.{Host, Zeros, Absent}
 
 -- only the same translation is the same
-pub same-is : (f g : Found) → same_found f g ≡ true → f ≡ g
+pub same-is : (f g : Result Found ℕ) → same_found f g ≡ true → f ≡ g
 unfolding same_found
-same-is (Host h) (Host k) e = ap Host (eqb-true h k e)
-same-is (Host h) Zeros e = absurd (true-not-false e refl)
-same-is (Host h) Absent e = absurd (true-not-false e refl)
-same-is (Host h) (Refused k) e = absurd (true-not-false e refl)
-same-is Zeros (Host k) e = absurd (true-not-false e refl)
-same-is Zeros Zeros e = refl
-same-is Zeros Absent e = absurd (true-not-false e refl)
-same-is Zeros (Refused k) e = absurd (true-not-false e refl)
-same-is Absent (Host k) e = absurd (true-not-false e refl)
-same-is Absent Zeros e = absurd (true-not-false e refl)
-same-is Absent Absent e = refl
-same-is Absent (Refused k) e = absurd (true-not-false e refl)
-same-is (Refused k) (Host h) e = absurd (true-not-false e refl)
-same-is (Refused k) Zeros e = absurd (true-not-false e refl)
-same-is (Refused k) Absent e = absurd (true-not-false e refl)
-same-is (Refused k) (Refused n) e = ap Refused (eqb-true k n e)
+same-is (Ok (Host h)) (Ok (Host k)) e = ap (λ h. Ok (Host h)) (eqb-true h k e)
+same-is (Ok (Host h)) (Ok Zeros) e = absurd (true-not-false e refl)
+same-is (Ok (Host h)) (Ok Absent) e = absurd (true-not-false e refl)
+same-is (Ok (Host h)) (Err k) e = absurd (true-not-false e refl)
+same-is (Ok Zeros) (Ok (Host k)) e = absurd (true-not-false e refl)
+same-is (Ok Zeros) (Ok Zeros) e = refl
+same-is (Ok Zeros) (Ok Absent) e = absurd (true-not-false e refl)
+same-is (Ok Zeros) (Err k) e = absurd (true-not-false e refl)
+same-is (Ok Absent) (Ok (Host k)) e = absurd (true-not-false e refl)
+same-is (Ok Absent) (Ok Zeros) e = absurd (true-not-false e refl)
+same-is (Ok Absent) (Ok Absent) e = refl
+same-is (Ok Absent) (Err k) e = absurd (true-not-false e refl)
+same-is (Err k) (Ok (Host h)) e = absurd (true-not-false e refl)
+same-is (Err k) (Ok Zeros) e = absurd (true-not-false e refl)
+same-is (Err k) (Ok Absent) e = absurd (true-not-false e refl)
+same-is (Err k) (Err n) e = ap Err (eqb-true k n e)
 
 module _ (s : List ℕ) (t x : ℕ) where
   pub run-most : (len : ℕ) → run_length s t x len ≤ len
@@ -51,21 +52,21 @@ module _ (s : List ℕ) (t x : ℕ) where
       go false e = absurd (omega (arith, h, first-high (λ j. not (goes_on s t x j)) 0 len, first-least (λ j. not (goes_on s t x j)) 0 len i (omega arith) (omega (arith, h, first-high (λ j. not (goes_on s t x j)) 0 len)) (ap not e)))
 
   -- and so at host offsets that go on one by one
-  pub run_host : (len h i : ℕ) → located s t x ≡ Host h → i < run_length s t x len → located s t (x + i) ≡ Host (h + i)
+  pub run_host : (len h i : ℕ) → located s t x ≡ Ok (Host h) → i < run_length s t x len → located s t (x + i) ≡ Ok (Host (h + i))
   run_host len h i e l = rw e at (run-byte len i l)
 
-pub same_self : (f : Found) → same_found f f ≡ true
+pub same_self : (f : Result Found ℕ) → same_found f f ≡ true
 unfolding same_found
-same_self (Host h) = eq-eqb h h refl
-same_self Zeros = refl
-same_self Absent = refl
-same_self (Refused k) = eq-eqb k k refl
+same_self (Ok (Host h)) = eq-eqb h h refl
+same_self (Ok Zeros) = refl
+same_self (Ok Absent) = refl
+same_self (Err k) = eq-eqb k k refl
 
-moved_none : (f : Found) → moved f 0 ≡ f
-moved_none (Host h) = ap Host (add-zero h)
-moved_none Zeros = refl
-moved_none Absent = refl
-moved_none (Refused k) = refl
+moved_none : (f : Result Found ℕ) → moved f 0 ≡ f
+moved_none (Ok (Host h)) = ap (λ h. Ok (Host h)) (add-zero h)
+moved_none (Ok Zeros) = refl
+moved_none (Ok Absent) = refl
+moved_none (Err k) = refl
 
 module _ (s : List ℕ) (t x : ℕ) where
   pub goes_first : goes_on s t x 0 ≡ true

@@ -1,5 +1,5 @@
 -- What the guest and its snapshots read, from what the machinery says of the clusters: a call that leaves the reads, zeroes a guest cluster or writes bytes into it feeds the plain disk so. Assumes nothing.
-use Rattle.std.specs.Prelude.{if◌then◌else◌}
+use Rattle.std.specs.Prelude.{if◌then◌else◌, Err, Ok as ok, Result as Outcome}
 use Prim.Native.Nat.{ℕ, ◌+◌, ◌-◌, ◌*◌, ◌/◌, ◌%◌, ◌≤◌, ◌<◌}
 use native.Mathlib.Nat.{mod-lt, div-add-mod', mul-le-mul_right}
 use native.Mathlib.Decide.{ℕ_discrete, dec_le, dec_lt}
@@ -18,8 +18,8 @@ use Rattle.cuts.proofs.Call.{Ok, SameGuest, Zeroed}
 use Rattle.cuts.proofs.Write.{Wrote, Partly}
 use Rattle.qcow2_spec.specs.Header.{most_l1, cluster_size, clusters, disk_size, per_table, roots, root_size}
 use Rattle.qcow2_spec.specs.Guest.{backing_byte, reach}
-use Rattle.units.specs.declared.Outcome.{Outcome}
-use Rattle.units.specs.declared.Outcome.TheVariants.{Finished, Stopped, Refused}
+use Rattle.units.specs.declared.Ended.{Ended}
+use Rattle.units.specs.declared.Ended.TheVariants.{Finished, Stopped}
 use Rattle.qcow2_spec.specs.Disk.{Request, write, discard, repair, finished, SameDisk, Mixed, Fed}
 use Rattle.choice.proofs.Tests.{if_yes, if_no, if_elim, and-true, two_ways}
 use Rattle.qcow2_spec.proofs.Facts.{Facts, c_pos, root-few, root-count}
@@ -67,7 +67,7 @@ within-cluster C x y n cp fits a b = go (ℕ_discrete (y / C) (x / C))
     go (yes e) = (e, omega (arith, d1, d2, ap (λ (z : ℕ). z * C) e))
     go (no n) = absurd (far n (dec_lt (y / C) (x / C)))
 
-pub strong : (b : Bool) (size : ℕ) (old new now : ℕ → ℕ) → SameDisk size now old ⊎ SameDisk size now new → (u : ℕ) → Fed (Stopped u) b size old new now
+pub strong : (b : Bool) (size : ℕ) (old new now : ℕ → ℕ) → SameDisk size now old ⊎ SameDisk size now new → (u : ℕ) → Fed (ok (Stopped u)) b size old new now
 unfolding Fed SameDisk Mixed
 strong true size old new now h u = h
 strong false size old new now (inl h) u = λ x l. inl (h x l)
@@ -75,13 +75,13 @@ strong false size old new now (inr h) u = λ x l. inr (h x l)
 
 -- the plain disk may be read off by either side
 module _ (size : ℕ) (old old' new new' now now' : ℕ → ℕ) (ho : SameDisk size old old') (hn : SameDisk size new new') (hw : SameDisk size now now') where
-  pub fed-same : (o : Outcome) (b : Bool) → Fed o b size old new now → Fed o b size old' new' now'
+  pub fed-same : (o : Outcome Ended ℕ) (b : Bool) → Fed o b size old new now → Fed o b size old' new' now'
   unfolding Fed SameDisk Mixed
-  fed-same (Refused n) b h = λ y l. sym (hw y l) ∙ h y l ∙ ho y l
-  fed-same (Finished u) b h = λ y l. sym (hw y l) ∙ h y l ∙ hn y l
-  fed-same (Stopped u) true (inl h) = inl (λ y l. sym (hw y l) ∙ h y l ∙ ho y l)
-  fed-same (Stopped u) true (inr h) = inr (λ y l. sym (hw y l) ∙ h y l ∙ hn y l)
-  fed-same (Stopped u) false h = λ y l. go y l (h y l)
+  fed-same (Err n) b h = λ y l. sym (hw y l) ∙ h y l ∙ ho y l
+  fed-same (ok (Finished u)) b h = λ y l. sym (hw y l) ∙ h y l ∙ hn y l
+  fed-same (ok (Stopped u)) true (inl h) = inl (λ y l. sym (hw y l) ∙ h y l ∙ ho y l)
+  fed-same (ok (Stopped u)) true (inr h) = inr (λ y l. sym (hw y l) ∙ h y l ∙ hn y l)
+  fed-same (ok (Stopped u)) false h = λ y l. go y l (h y l)
     where
       go : (y : ℕ) → y < size → (now y ≡ old y) ⊎ (now y ≡ new y) → (now' y ≡ old' y) ⊎ (now' y ≡ new' y)
       go y l (inl e) = inl (sym (hw y l) ∙ e ∙ ho y l)

@@ -1,5 +1,5 @@
 -- Demand 3, for a drive that keeps no order between two flushes, and so for rough cuts and smooth ones: the theorem about every series of calls on every image that is sound or leaking. Assumes nothing.
-use Rattle.std.specs.Prelude.{if◌then◌else◌}
+use Rattle.std.specs.Prelude.{if◌then◌else◌, Err, Ok as ok, Result as Outcome}
 use Prim.Native.Nat.{ℕ, zero, suc, ◌+◌, ◌-◌, ◌*◌, ◌/◌, ◌%◌, ◌≤◌, ◌<◌}
 use native.Mathlib.Nat.{le_refl, mod-lt}
 use native.Mathlib.Decide.{dec_lt}
@@ -23,8 +23,8 @@ use Rattle.units.specs.Units.{UnitStore, apply_all}
 use Rattle.tally.specs.Tally.{occurrences}
 use Rattle.qcow2_spec.specs.References.{references}
 use Rattle.qcow2_spec.specs.Check.{verdict, checked as checked_with, check}
-use Rattle.units.specs.declared.Outcome.{Outcome}
-use Rattle.units.specs.declared.Outcome.TheVariants.{Finished, Stopped, Refused}
+use Rattle.units.specs.declared.Ended.{Ended}
+use Rattle.units.specs.declared.Ended.TheVariants.{Finished, Stopped}
 use Rattle.qcow2_spec.specs.declared.Verdict.TheVariants.{Refused as NotChecked}
 use Rattle.units.specs.Plan.{stores_count}
 use Rattle.qcow2_spec.specs.Disk.{Request, write, discard, repair, plan_of, finished, SameDisk, Fed}
@@ -206,13 +206,13 @@ unfolding SameDisk
 finished-same C size r a b h y l = finished-at C r a b y (h y l)
 
 -- ---- one call
-unfoldable pub ExactBy : (backing s : List ℕ) → Facts s → Request → Outcome → List ℕ → Type 0
-ExactBy backing s f r (Refused n) t = Unit {0}
-ExactBy backing s f r (Stopped u) t = Unit {0}
-ExactBy backing s f r (Finished u) t = Exact backing s f r t
+unfoldable pub ExactBy : (backing s : List ℕ) → Facts s → Request → Outcome Ended ℕ → List ℕ → Type 0
+ExactBy backing s f r (Err n) t = Unit {0}
+ExactBy backing s f r (ok (Stopped u)) t = Unit {0}
+ExactBy backing s f r (ok (Finished u)) t = Exact backing s f r t
 
 module _ (backing start s : List ℕ) (k : Good backing start s) where
-  pub record Result (r : Request) (o : Outcome) (b : Bool) (t : List ℕ) : Type 0 where
+  pub record Result (r : Request) (o : Outcome Ended ℕ) (b : Bool) (t : List ℕ) : Type 0 where
     pub kept : Ok (geo s) (code s) (mem (cluster_size s) s) t
     pub fed : Fed o b (disk_size s) (rd (geo s) (code s) (backing_byte backing s) s 0) (finished (cluster_size s) r (rd (geo s) (code s) (backing_byte backing s) s 0)) (rd (geo s) (code s) (backing_byte backing s) t 0)
     pub shots : Shots backing s (fs backing start s k) t
@@ -225,7 +225,7 @@ module _ (backing start s : List ℕ) (k : Good backing start s) where
   result bb r a cs (units us) h =
       let M : List ℕ → Type 0 = Mid backing s (fs backing start s k) r (stores_count us) in
       let Q : List ℕ → Type 0 = End backing s (fs backing start s k) r in
-      if_elim (λ (o : Outcome). Result r o (stores_count us) (apply_all (loosely (epochs s us) a cs) s)) (leb (length us) a) (Finished (length us)) (Stopped a)
+      if_elim (λ (o : Ended). Result r (ok o) (stores_count us) (apply_all (loosely (epochs s us) a cs) s)) (leb (length us) a) (Finished (length us)) (Stopped a)
       (λ e. let q : Q (apply_all us s) = rw (epochs-whole s us) at (held_end M Q (epochs s us) s h.0) in
       rw (loosely-all (epochs s us) a cs (rw (epochs-whole s us) (leb-true _ _ e)), epochs-whole s us) (record { kept = q.0; fed = q.1.0; shots = q.2; exact = q.1.1 }))
       (λ e. let q = held_cut M Q (epochs s us) s (untouched backing s (fs backing start s k) bb (own backing start s k) r (stores_count us)) h.0 a cs in
@@ -236,13 +236,13 @@ module _ (backing start s : List ℕ) (k : Good backing start s) where
   first-cleared r a cs (refused n) h = λ b. inl (ap (λ (us : List UnitStore). apply_all us s) (loosely-all (epochs s []) a cs (rw (epochs-whole s []) (omega arith)) ∙ epochs-whole s []))
   first-cleared r a cs (units us) h = held_cut (ClearedFirst s) (λ (t : List ℕ). Unit {0}) (epochs s us) s (λ b. inl refl) h.1 a cs
 
-  pub by_repair : (r : Request) (o : Outcome) (t : List ℕ) → Ok (geo s) (code s) (mem (cluster_size s) s) t → Shots backing s (fs backing start s k) t → ExactBy backing s (fs backing start s k) r o t → MendedBy backing r o start t
+  pub by_repair : (r : Request) (o : Outcome Ended ℕ) (t : List ℕ) → Ok (geo s) (code s) (mem (cluster_size s) s) t → Shots backing s (fs backing start s k) t → ExactBy backing s (fs backing start s k) r o t → MendedBy backing r o start t
   unfolding MendedBy ExactBy Exact
   by_repair (write x d) o t q sh h = tt
   by_repair (discard g) o t q sh h = tt
-  by_repair (repair n) (Refused m) t q sh h = tt
-  by_repair (repair n) (Stopped u) t q sh h = tt
-  by_repair (repair n) (Finished u) t q sh h = mended backing start t (next-good backing start s k t q sh) (next_exact backing start s k t q h)
+  by_repair (repair n) (Err m) t q sh h = tt
+  by_repair (repair n) (ok (Stopped u)) t q sh h = tt
+  by_repair (repair n) (ok (Finished u)) t q sh h = mended backing start t (next-good backing start s k t q sh) (next_exact backing start s k t q h)
 
   pub step : Bytes backing → Good backing start start → (c : Call) (picks : List Bool) → BytesOf c.asks
       → Good backing start (left_loose backing s c picks)

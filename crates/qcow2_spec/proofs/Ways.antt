@@ -1,4 +1,5 @@
 -- The way to a guest cluster, and what a read gives, in the machinery's terms. Assumes nothing.
+use Rattle.std.specs.Prelude.{Err, Ok, Result}
 use Prim.Native.Nat.{ℕ, zero, suc, ◌+◌, ◌-◌, ◌*◌, ◌/◌, ◌%◌, ◌^◌, ◌≤◌, ◌<◌}
 use native.Mathlib.Nat.{le_refl, zero-div, div-lt_iff_lt-mul, mod-lt}
 use native.Mathlib.Omega.{arith}
@@ -18,7 +19,7 @@ use Rattle.endian.specs.Big.{be64, part}
 use Rattle.qcow2_spec.specs.Header.{most_l1, version, cluster_size, per_table, roots, root_size, judge}
 use Rattle.qcow2_spec.specs.Entries.{place, alone, good_l1, good_l2, common, compressed, zero_mark}
 use Rattle.qcow2_spec.specs.declared.Way.{Way}
-use Rattle.qcow2_spec.specs.declared.Way.TheVariants.{Bad as bad, NoTable as no_table, Slot as slot}
+use Rattle.qcow2_spec.specs.declared.Way.TheVariants.{NoTable as no_table, Slot as slot}
 use Rattle.qcow2_spec.specs.Guest.{l1_entry_at, l1_entry, entry_way, l2_way, way, entry_gives, way_gives, backing_byte, found_byte, located, guest_byte, guest_bytes, way_number, ways_number, reach, outside, touched, range_number, range_into, read_number, read_into}
 use Rattle.qcow2_spec.specs.declared.Found.{Found}
 use Rattle.qcow2_spec.specs.Store.{own_slot, own_way}
@@ -66,21 +67,21 @@ module _ (s : List ℕ) (f : Facts s) where
     pub entry-is : e ≡ l2 (geo s) m (tab (geo s) (code s) m (entry_nr t g)) (g % per_table s)
     pub good : good_l2 (version s) (cluster_size s) (length s) e ≡ true
 
-  unfoldable pub WayIs : (t g : ℕ) → Way → Type 0
-  WayIs t g (bad n) = Unit {0}
-  WayIs t g no_table = tab (geo s) (code s) m (entry_nr t g) ≡ 0
-  WayIs t g (slot a e) = Slot t g a e
+  unfoldable pub WayIs : (t g : ℕ) → Result Way ℕ → Type 0
+  WayIs t g (Err n) = Unit {0}
+  WayIs t g (Ok no_table) = tab (geo s) (code s) m (entry_nr t g) ≡ 0
+  WayIs t g (Ok (slot a e)) = Slot t g a e
 
-  unfoldable Open : Way → Type 0
-  Open (bad k) = ⊥
-  Open no_table = Unit {0}
-  Open (slot a e) = Unit {0}
+  unfoldable Open : Result Way ℕ → Type 0
+  Open (Err k) = ⊥
+  Open (Ok no_table) = Unit {0}
+  Open (Ok (slot a e)) = Unit {0}
 
-  open_number : (w : Way) → Open w → way_number w ≡ 0
+  open_number : (w : Result Way ℕ) → Open w → way_number w ≡ 0
   unfolding Open way_number
-  open_number (bad k) h = absurd h
-  open_number no_table h = refl
-  open_number (slot a e) h = refl
+  open_number (Err k) h = absurd h
+  open_number (Ok no_table) h = refl
+  open_number (Ok (slot a e)) h = refl
 
   -- guest cluster g in reach of L1 table t
   module _ (t : ℕ) (ht : t < roots s) (g : ℕ) (hg : g / per_table s < root_size s t) where
@@ -165,15 +166,15 @@ module _ (s : List ℕ) (f : Facts s) where
     pub dat_some-own : place e ≢ 0 → dat (geo s) (code s) m (entry_nr t g) (g % per_table s) ≢ 0
     dat_some-own d z = d (div_none (cluster_size s) (place e) (placed2 s f e h.good).whole (sym dat_own ∙ z))
 
-  byte-gives : (backing : List ℕ) (t g o x : ℕ) (w : Way) → WayIs t g w → Open w
+  byte-gives : (backing : List ℕ) (t g o x : ℕ) (w : Result Way ℕ) → WayIs t g w → Open w
       → found_byte backing s x (way_gives w o) ≡ gread (geo s) (code s) m (entry_nr t g) (g % per_table s) o (backing_byte backing s x)
   unfolding WayIs Open found_byte way_gives entry_gives zero_mark
-  byte-gives backing t g o x (bad k) h n = absurd n
-  byte-gives backing t g o x no_table h n = ap (λ (f : ℕ → ℕ). f (backing_byte backing s x)) (sym (gread_absent (geo s) (code s) m (entry_nr t g) (g % per_table s) o h))
-  byte-gives backing t g o x (slot a e) h n =
-      if_elim (λ (y : Found). found_byte backing s x y ≡ gread (geo s) (code s) m i j o u) (eqb (e % 2) 1) _ _
+  byte-gives backing t g o x (Err k) h n = absurd n
+  byte-gives backing t g o x (Ok no_table) h n = ap (λ (f : ℕ → ℕ). f (backing_byte backing s x)) (sym (gread_absent (geo s) (code s) m (entry_nr t g) (g % per_table s) o h))
+  byte-gives backing t g o x (Ok (slot a e)) h n =
+      if_elim (λ (y : Found). found_byte backing s x (Ok y) ≡ gread (geo s) (code s) m i j o u) (eqb (e % 2) 1) _ _
       (λ z. ap (λ (f : ℕ → ℕ). f u) (sym (gread_marked (geo s) (code s) m i j o (λ y. omega (arith, eqb-true (e % 2) 1 z, mark_own t g a e h, y)))))
-      (λ z. if_elim (λ (y : Found). found_byte backing s x y ≡ gread (geo s) (code s) m i j o u) (eqb (place e) 0) _ _
+      (λ z. if_elim (λ (y : Found). found_byte backing s x (Ok y) ≡ gread (geo s) (code s) m i j o u) (eqb (place e) 0) _ _
       (λ p. ap (λ (f : ℕ → ℕ). f u) (sym (gread_none (geo s) (code s) m i j o (dat_zero t g a e h (eqb-true _ _ p)) (mark_own t g a e h ∙ even (eqb-false _ _ z)))))
       (λ p. sym (gread_shown (geo s) (code s) m i j o u (dat_some-own t g a e h (eqb-false _ _ p)) (mark_own t g a e h ∙ even (eqb-false _ _ z))
       ∙ ap (λ (y : ℕ). get_or s (y + o) 0) (dat_place t g a e h))))
@@ -255,10 +256,10 @@ module _ (s : List ℕ) (f : Facts s) where
     pub lone : refs_of (geo s) (code s) m (tab (geo s) (code s) m (entry_nr 0 g)) ≤ 1
     pub lone_data : dat (geo s) (code s) m (entry_nr 0 g) (g % per_table s) ≢ 0 → refs_of (geo s) (code s) m (dat (geo s) (code s) m (entry_nr 0 g) (g % per_table s)) ≤ 1
 
-  unfoldable pub OwnIs : (g : ℕ) → Way → Type 0
-  OwnIs g (bad n) = Unit {0}
-  OwnIs g no_table = tab (geo s) (code s) m (entry_nr 0 g) ≡ 0
-  OwnIs g (slot a e) = Own g a e
+  unfoldable pub OwnIs : (g : ℕ) → Result Way ℕ → Type 0
+  OwnIs g (Err n) = Unit {0}
+  OwnIs g (Ok no_table) = tab (geo s) (code s) m (entry_nr 0 g) ≡ 0
+  OwnIs g (Ok (slot a e)) = Own g a e
 
   first-root : 0 < roots s
   first-root = omega (arith, root-count s f)
@@ -284,10 +285,10 @@ module _ (s : List ℕ) (f : Facts s) where
       i_m : i < most_l1
       i_m = first_nr g l
 
-      pick : (w : Way) → common (l1_entry s 0 g) ≡ false → WayIs 0 g w → OwnIs g (own_slot w)
-      pick (bad n) c h = tt
-      pick no_table c h = h
-      pick (slot a e) c h = if_elim (OwnIs g) (common e) _ _ (λ y. tt) (λ y. record {
+      pick : (w : Result Way ℕ) → common (l1_entry s 0 g) ≡ false → WayIs 0 g w → OwnIs g (own_slot w)
+      pick (Err n) c h = tt
+      pick (Ok no_table) c h = h
+      pick (Ok (slot a e)) c h = if_elim (OwnIs g) (common e) _ _ (λ y. tt) (λ y. record {
         way_slot = h;
         lone = let p : place (l1_entry s 0 g) ≢ 0 = λ z. h.table (tab_own 0 first-root g l ∙ ap (λ (x : ℕ). x / cluster_size s) z ∙ zero-div (cluster_size s)) in
             let q : l1 (geo s) m i / 2 ^ 63 ≡ 1 = rw (l1_own 0 first-root g l) at (common-not (l1_entry s 0 g) c p) in

@@ -1,19 +1,19 @@
 -- A read byte by byte, by where the tables have each of its bytes. `read_number` goes by guest clusters and is refused as this is
 -- (proofs/Bytewise.antt), a translation is the read of one byte, and a lookup gives the same bytes (proofs/Lookup.antt).
 -- Assumes nothing.
-use Rattle.std.specs.Prelude.{ℕ, zero, suc, ◌+◌, ◌≡◌, List, [], ◌∷◌, leb, ltb, eqb, length, if◌then◌else◌}
+use Rattle.std.specs.Prelude.{ℕ, zero, suc, ◌+◌, ◌≡◌, List, [], ◌∷◌, leb, ltb, eqb, length, if◌then◌else◌, Err, Ok, Result}
 use Rattle.choice.specs.Pick.{unless, each}
 use Rattle.qcow2_spec.specs.Header.{roots, judge}
 use Rattle.qcow2_spec.specs.Guest.{located, translate, found_byte, reach, read_number, read_into, in_place}
 use Rattle.qcow2_spec.specs.declared.Found.{Found}
-use Rattle.qcow2_spec.specs.declared.Found.TheVariants.{Host, Zeros, Absent, Refused}
+use Rattle.qcow2_spec.specs.declared.Found.TheVariants.{Host, Zeros, Absent}
 
 -- the number of a refused translation; 0 where it is not refused
-unfoldable pub refusal : Found → ℕ
-refusal (Host h) = 0
-refusal Zeros = 0
-refusal Absent = 0
-refusal (Refused k) = k
+unfoldable pub refusal : Result Found ℕ → ℕ
+refusal (Ok (Host h)) = 0
+refusal (Ok Zeros) = 0
+refusal (Ok Absent) = 0
+refusal (Err k) = k
 
 -- the first refusal among the len bytes from x on of the disk of L1 table t, rising; 0 where none is refused
 unfoldable pub bytes_number : List ℕ → (t x len : ℕ) → ℕ

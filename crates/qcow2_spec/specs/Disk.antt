@@ -1,9 +1,9 @@
 -- The calls of a series, and the plain disk that they are fed to. Paper 01, "The plain disk and the series".
 -- Assumes nothing.
-use Rattle.std.specs.Prelude.{ℕ, ◌+◌, ◌-◌, ◌/◌, ◌<◌, ◌≡◌, ◌⊎◌, Bool, true, false, ◌&&◌, List, leb, ltb, eqb, length, get_or, if◌then◌else◌}
+use Rattle.std.specs.Prelude.{ℕ, ◌+◌, ◌-◌, ◌/◌, ◌<◌, ◌≡◌, ◌⊎◌, Bool, true, false, ◌&&◌, List, leb, ltb, eqb, length, get_or, if◌then◌else◌, Err, Ok, Result}
 use Rattle.units.specs.Plan.{Plan}
-use Rattle.units.specs.declared.Outcome.{Outcome}
-use Rattle.units.specs.declared.Outcome.TheVariants.{Finished, Stopped, Refused}
+use Rattle.units.specs.declared.Ended.{Ended}
+use Rattle.units.specs.declared.Ended.TheVariants.{Finished, Stopped}
 use Rattle.qcow2_spec.specs.Store.{write_plan, discard_plan}
 use Rattle.qcow2_spec.specs.Check.{repair_plan}
 
@@ -34,8 +34,8 @@ unfoldable pub Mixed : (size : ℕ) (now a b : ℕ → ℕ) → Type 0
 Mixed size now a b = (y : ℕ) → y < size → (now y ≡ a y) ⊎ (now y ≡ b y)
 
 -- a call finds the disk `old` and leaves it `now`, and `new` is what finishing gives
-unfoldable pub Fed : Outcome → (stores : Bool) → (size : ℕ) (old new now : ℕ → ℕ) → Type 0
-Fed (Refused k) stores size old new now = SameDisk size now old
-Fed (Finished u) stores size old new now = SameDisk size now new
-Fed (Stopped u) true size old new now = SameDisk size now old ⊎ SameDisk size now new
-Fed (Stopped u) false size old new now = Mixed size now old new
+unfoldable pub Fed : Result Ended ℕ → (stores : Bool) → (size : ℕ) (old new now : ℕ → ℕ) → Type 0
+Fed (Err k) stores size old new now = SameDisk size now old
+Fed (Ok (Finished u)) stores size old new now = SameDisk size now new
+Fed (Ok (Stopped u)) true size old new now = SameDisk size now old ⊎ SameDisk size now new
+Fed (Ok (Stopped u)) false size old new now = Mixed size now old new

@@ -15,3 +15,4 @@ pub mod Steps
 pub mod Series
 pub mod Opened
 pub mod Ready
+pub mod Causes

@@ -1,52 +1,50 @@
 -- Guest bytes that go on alike, as runs: all zeros by mark, all not allocated, all refused with one number, or at host offsets that
 -- go on one by one. Paper 01, "Reading".
 -- Assumes nothing.
-use Rattle.std.specs.Prelude.{ℕ, zero, suc, ◌+◌, ◌-◌, ◌/◌, Bool, not, ◌&&◌, List, [], ◌∷◌, ◌++◌, eqb, length, if◌then◌else◌}
+use Rattle.std.specs.Prelude.{ℕ, zero, suc, ◌+◌, ◌-◌, ◌/◌, Bool, not, ◌&&◌, List, [], ◌∷◌, ◌++◌, eqb, length, if◌then◌else◌, Err, Ok, Result}
 use Rattle.choice.specs.Pick.{unless, first}
 use Rattle.endian.specs.Big.{splice}
 use Rattle.qcow2_spec.specs.Header.{judge}
 use Rattle.qcow2_spec.specs.Guest.{located, outside}
 use Rattle.qcow2_spec.specs.declared.Found.{Found}
-use Rattle.qcow2_spec.specs.declared.Found.TheVariants.{Host, Zeros, Absent, Refused}
-use Rattle.qcow2_spec.specs.declared.Listed.{Listed}
-use Rattle.qcow2_spec.specs.declared.Listed.TheVariants.{Refused as NotListed, Rows}
+use Rattle.qcow2_spec.specs.declared.Found.TheVariants.{Host, Zeros, Absent}
 
 -- a translation as a number: 0 with a host offset, zeros, not allocated, or its own number
-abbrev pub found_code : Found → ℕ
-found_code (Host h) = 0
-found_code Zeros = 1002
-found_code Absent = 1003
-found_code (Refused k) = k
+abbrev pub found_code : Result Found ℕ → ℕ
+found_code (Ok (Host h)) = 0
+found_code (Ok Zeros) = 1002
+found_code (Ok Absent) = 1003
+found_code (Err k) = k
 
 -- its host offset; 0 where it has none
-abbrev pub found_host : Found → ℕ
-found_host (Host h) = h
-found_host Zeros = 0
-found_host Absent = 0
-found_host (Refused k) = 0
+abbrev pub found_host : Result Found ℕ → ℕ
+found_host (Ok (Host h)) = h
+found_host (Ok Zeros) = 0
+found_host (Ok Absent) = 0
+found_host (Err k) = 0
 
 -- what lies i bytes on where a run goes on
-abbrev pub moved : Found → ℕ → Found
-moved (Host h) i = Host (h + i)
-moved Zeros i = Zeros
-moved Absent i = Absent
-moved (Refused k) i = Refused k
+abbrev pub moved : Result Found ℕ → ℕ → Result Found ℕ
+moved (Ok (Host h)) i = Ok (Host (h + i))
+moved (Ok Zeros) i = Ok Zeros
+moved (Ok Absent) i = Ok Absent
+moved (Err k) i = Err k
 
 -- which of the four a translation is, and the number in it
-abbrev pub found_kind : Found → ℕ
-found_kind (Host h) = 0
-found_kind Zeros = 1
-found_kind Absent = 2
-found_kind (Refused k) = 3
+abbrev pub found_kind : Result Found ℕ → ℕ
+found_kind (Ok (Host h)) = 0
+found_kind (Ok Zeros) = 1
+found_kind (Ok Absent) = 2
+found_kind (Err k) = 3
 
-abbrev pub found_number : Found → ℕ
-found_number (Host h) = h
-found_number Zeros = 0
-found_number Absent = 0
-found_number (Refused k) = k
+abbrev pub found_number : Result Found ℕ → ℕ
+found_number (Ok (Host h)) = h
+found_number (Ok Zeros) = 0
+found_number (Ok Absent) = 0
+found_number (Err k) = k
 
 -- two translations are the same
-unfoldable pub same_found : Found → Found → Bool
+unfoldable pub same_found : Result Found ℕ → Result Found ℕ → Bool
 same_found a b = eqb (found_kind a) (found_kind b) && eqb (found_number a) (found_number b)
 
 -- byte x + i goes on alike from x
@@ -58,7 +56,7 @@ unfoldable pub run_length : List ℕ → (t x len : ℕ) → ℕ
 run_length s t x len = first (λ i. not (goes_on s t x i)) 0 len
 
 -- a run as three numbers: its kind, its host offset and its length
-unfoldable pub run_row : Found → ℕ → List ℕ
+unfoldable pub run_row : Result Found ℕ → ℕ → List ℕ
 run_row f r = found_code f ∷ found_host f ∷ r ∷ []
 
 -- the runs of the len bytes from x on, one after the other, at most k of them
@@ -69,16 +67,16 @@ run_rows s t x len (suc k) =
     run_row (located s t x) (run_length s t x len) ++ run_rows s t (x + run_length s t x len) (len - run_length s t x len) k
 
 -- the answer once the image is accepted: 11, or how many runs were listed. A bad entry is a run of its own and no refusal
-unfoldable pub runs_listed : List ℕ → (t x len k : ℕ) → Listed
-runs_listed s t x len k = if outside s t x len then NotListed 11 else Rows (length (run_rows s t x len k) / 3)
+unfoldable pub runs_listed : List ℕ → (t x len k : ℕ) → Result ℕ ℕ
+runs_listed s t x len k = if outside s t x len then Err 11 else Ok (length (run_rows s t x len k) / 3)
 
 -- and what is left in the output, three numbers a run: the runs, then what was there; refused: nothing changes
 unfoldable pub runs_put : List ℕ → (t x len : ℕ) → List ℕ → List ℕ
 runs_put s t x len out = if outside s t x len then out else splice out 0 (run_rows s t x len (length out / 3))
 
 -- the answer: a number, or how many runs were listed
-unfoldable pub list_runs : (backing s : List ℕ) → (t x len k : ℕ) → Listed
-list_runs backing s t x len k = unless (judge backing s) NotListed (runs_listed s t x len k)
+unfoldable pub list_runs : (backing s : List ℕ) → (t x len k : ℕ) → Result ℕ ℕ
+list_runs backing s t x len k = unless (judge backing s) Err (runs_listed s t x len k)
 
 -- what a listing leaves in its output
 unfoldable pub runs_into : (backing s : List ℕ) → (t x len : ℕ) → List ℕ → List ℕ

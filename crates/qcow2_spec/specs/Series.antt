@@ -1,12 +1,12 @@
 -- Demand 3: what holds of every series of calls. Paper 01, "The plain disk and the series"; paper 02, T-05, T-11 and, for rough cuts, T-09; and on
 -- a drive that keeps no order. All three are proved in proofs/Series.antt.
 -- Assumes nothing.
-use Rattle.std.specs.Prelude.{ℕ, suc, ◌+◌, ◌*◌, ◌≤◌, ◌<◌, ◌≡◌, ◌↔◌, ◌⊎◌, ◌≢◌, Bool, List, [], ◌∷◌, length, get_or, take}
+use Rattle.std.specs.Prelude.{ℕ, suc, ◌+◌, ◌*◌, ◌≤◌, ◌<◌, ◌≡◌, ◌↔◌, ◌⊎◌, ◌≢◌, Bool, List, [], ◌∷◌, length, get_or, take, Err, Ok, Result}
 use Rattle.choice.specs.Pick.{each}
 use Rattle.units.specs.Units.{apply_all}
 use Rattle.units.specs.Plan.{plan_units, stores_count, outcome, after}
-use Rattle.units.specs.declared.Outcome.{Outcome}
-use Rattle.units.specs.declared.Outcome.TheVariants.{Finished, Stopped, Refused}
+use Rattle.units.specs.declared.Ended.{Ended}
+use Rattle.units.specs.declared.Ended.TheVariants.{Finished, Stopped}
 use Rattle.tally.specs.Tally.{occurrences}
 use Rattle.qcow2_spec.specs.Header.{autoclear, cluster_size, clusters, disk_size, roots}
 use Rattle.qcow2_spec.specs.Counts.{count_of}
@@ -50,12 +50,12 @@ pub record Mended (backing start s : List ℕ) : Type 0 where
   pub free : (k : ℕ) → k < clusters start → (count_of s k ≡ 0) ↔ (occurrences k (references s) ≡ 0)
 
 -- s is mended if the call was a repair that finished
-unfoldable pub MendedBy : (backing : List ℕ) → Request → Outcome → (start s : List ℕ) → Type 0
+unfoldable pub MendedBy : (backing : List ℕ) → Request → Result Ended ℕ → (start s : List ℕ) → Type 0
 MendedBy backing (write x d) o start s = Unit {0}
 MendedBy backing (discard g) o start s = Unit {0}
-MendedBy backing (repair n) (Refused k) start s = Unit {0}
-MendedBy backing (repair n) (Stopped u) start s = Unit {0}
-MendedBy backing (repair n) (Finished u) start s = Mended backing start s
+MendedBy backing (repair n) (Err k) start s = Unit {0}
+MendedBy backing (repair n) (Ok (Stopped u)) start s = Unit {0}
+MendedBy backing (repair n) (Ok (Finished u)) start s = Mended backing start s
 
 -- a call of a series: what it asks, and its allowance of units
 pub record Call : Type 0 where
@@ -75,7 +75,7 @@ unfoldable pub left_loose : (backing s : List ℕ) → Call → List Bool → Li
 left_loose backing s c picks = after_loose (plan_of backing s c.asks) c.allowance picks s
 
 -- how a call on s ends
-unfoldable pub ends : (backing s : List ℕ) → Call → Outcome
+unfoldable pub ends : (backing s : List ℕ) → Call → Result Ended ℕ
 ends backing s c = outcome (plan_of backing s c.asks) c.allowance
 
 -- a call on s finds the plain disk `old` and leaves the image t, and the plain disk can then be `now`

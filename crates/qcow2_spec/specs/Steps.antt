@@ -1,14 +1,12 @@
 -- The steps of a call that was run in memory, for a store that brings what it changed to a file: which bytes, and in which epoch.
 -- Assumes nothing.
-use Rattle.std.specs.Prelude.{ℕ, suc, ◌+◌, ◌*◌, ◌/◌, min, ◌≡◌, Bool, true, false, ◌&&◌, ◌||◌, List, [], ◌∷◌, ◌++◌, leb, ltb, eqb, length, get_or, take, if◌then◌else◌}
+use Rattle.std.specs.Prelude.{ℕ, suc, ◌+◌, ◌*◌, ◌/◌, min, ◌≡◌, Bool, true, false, ◌&&◌, ◌||◌, List, [], ◌∷◌, ◌++◌, leb, ltb, eqb, length, get_or, take, if◌then◌else◌, Err, Ok, Result}
 use Rattle.choice.specs.Pick.{each}
 use Rattle.endian.specs.Big.{splice}
 use Rattle.widths.specs.Width.{span}
 use Rattle.units.specs.Units.{UnitStore, byte, entry, count}
 use Rattle.units.specs.Plan.{Plan, refused, units, plan_units}
 use Rattle.qcow2_spec.specs.Flush.{epochs}
-use Rattle.qcow2_spec.specs.declared.Listed.{Listed}
-use Rattle.qcow2_spec.specs.declared.Listed.TheVariants.{Refused as NotListed, Rows}
 
 -- the bytes of one count or entry, or of a fill as far as it goes on: where they begin, how many they are, and of how many units
 pub record Extent : Type 0 where
@@ -51,9 +49,9 @@ unfoldable pub steps : List ℕ → Plan → List ℕ
 steps s p = step_rows 0 (epochs s (plan_units p))
 
 -- the answer where m numbers are lent: the call's number, or how many steps were listed
-unfoldable pub list_steps : List ℕ → Plan → (m : ℕ) → Listed
-list_steps s (refused k) m = NotListed k
-list_steps s (units us) m = Rows (min (m / 4) (length (steps s (units us)) / 4))
+unfoldable pub list_steps : List ℕ → Plan → (m : ℕ) → Result ℕ ℕ
+list_steps s (refused k) m = Err k
+list_steps s (units us) m = Ok (min (m / 4) (length (steps s (units us)) / 4))
 
 -- rows, of which as many are put in front as there is room for
 unfoldable pub rows_put : (out rows : List ℕ) → List ℕ
@@ -64,7 +62,7 @@ unfoldable pub steps_into : List ℕ → Plan → List ℕ → List ℕ
 steps_into s p out = rows_put out (steps s p)
 
 -- a listing of the steps of plan p on the image s found the numbers `out`, answered r and left `now`
-pub record Listing (s : List ℕ) (p : Plan) (out : List ℕ) (r : Listed) (now : List ℕ) : Type 0 where
+pub record Listing (s : List ℕ) (p : Plan) (out : List ℕ) (r : Result ℕ ℕ) (now : List ℕ) : Type 0 where
   pub answer : r ≡ list_steps s p (length out)
   pub left : now ≡ steps_into s p out
 

@@ -1,32 +1,26 @@
 // The answers of the calls on a qcow2 image. The definitions are in specs/.
 #![tactic(auto)]
 
+pub mod refusal;
+
 // What a guest offset translates to.
 #[derive(Clone, Copy)]
 pub enum Found {
     Host(u64),
     Zeros,
     Absent,
-    Refused(u8),
 }
 
-// The way to a guest cluster: a number; no L2 table; or the place of its L2 entry and the entry, which is good.
+// The way to a guest cluster: no L2 table; or the place of its L2 entry and the entry, which is good.
 #[derive(Clone, Copy)]
 pub enum Way {
-    Bad(u8),
     NoTable,
     Slot(usize, u64),
 }
 
-// What a listing of runs says: a number, or how many were listed.
-#[derive(Clone, Copy)]
-pub enum Listed {
-    Refused(u8),
-    Rows(usize),
-}
-
 // What a check says. An L1 entry is named by its index, an L2 entry by both indices; a bad one after the number of its L1 table,
-// 0 for the active one and k + 1 for snapshot k's. A wrong mark is one of the active tables.
+// 0 for the active one and k + 1 for snapshot k's. A wrong mark is one of the active tables. A check that is refused says so with its number, which
+// stays a number here: a kept state holds any verdict, of any number (`state_of` in qcow2_kept/specs/Kept.antt).
 #[derive(Clone, Copy)]
 pub enum Verdict {
     Sound,
@@ -60,11 +54,4 @@ pub struct Geometry {
     pub snapshots: usize,
     pub snapshotsat: usize,
     pub backed: bool,
-}
-
-// A header's number, or what it gives.
-#[derive(Clone, Copy)]
-pub enum Judged {
-    Refused(u8),
-    Accepted(Geometry),
 }

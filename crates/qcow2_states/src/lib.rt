@@ -45,10 +45,8 @@ fn sweep_states(image: &[u8], window: &mut [u8], g: Geometry, b: usize) -> Sweep
         low: 0,
         found: Verdict::Sound,
     };
-    let mut t = 0;
-    while t < g.snapshots + 1 {
+    for t in 0..g.snapshots + 1 {
         w = next_root(w, image, window, g, t, b);
-        t += 1;
     }
     w
 }
@@ -84,8 +82,9 @@ pub fn look(image: &[u8], window: &mut [u8], g: Geometry) -> Looked
     let most = window.len() / 2;
     let mut good = false;
     let mut b = 0;
+    // A `while`: each window begins where the last one ended, and the last may be short.
     while b < n {
-        let k = power::lesser(most, n - b);
+        let k = most.min(n - b);
         let m = 2 * k;
         let w = look_window(image, &mut window[..m], g, b);
         if w.shared < n {

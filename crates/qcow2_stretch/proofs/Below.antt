@@ -1,5 +1,6 @@
 -- A run over the entries of one L2 table.
 -- Assumes nothing.
+use Rattle.std.specs.Prelude.{Err, Ok, Result}
 use Prim.Native.Nat.{ℕ, ◌+◌, ◌-◌, ◌*◌, ◌/◌, ◌%◌, ◌^◌, ◌≤◌, ◌<◌, min}
 use native.Mathlib.Nat.{add-mul, one-mul, mod-lt, div-add-mod', div-lt_iff_lt-mul, lt_of_mul-lt-mul_right, add-mul-div_right, add-mul-mod_self_right, add-sub_cancel_left}
 use native.Mathlib.Omega.{arith}
@@ -16,7 +17,7 @@ use Rattle.qcow2_spec.specs.Runs.{moved, found_host, goes_on}
 use Rattle.qcow2_spec.specs.Opened.{Opened}
 use Rattle.qcow2_spec.specs.declared.Geometry.{Geometry}
 use Rattle.qcow2_spec.specs.declared.Found.{Found}
-use Rattle.qcow2_spec.specs.declared.Found.TheVariants.{Host, Zeros, Absent, Refused}
+use Rattle.qcow2_spec.specs.declared.Found.TheVariants.{Host, Zeros, Absent}
 use Rattle.qcow2_spec.proofs.Runs.{same_self, same-is}
 use Rattle.qcow2_spec.proofs.Facts.{facts, c_in}
 use Rattle.qcow2_spec.proofs.Numbers.{part8}
@@ -29,20 +30,20 @@ use Rattle.qcow2_stretch.specs.Going.{Goes, Ahead}
 use Rattle.qcow2_alike.specs.Alike.{Entries, entry_goes, entries_end}
 use Rattle.qcow2_alike.proofs.Entries.{end_low, end_high, end_on, end_off}
 
-moved-moved : (f : Found) (i j : ℕ) → moved (moved f i) j ≡ moved f (i + j)
-moved-moved (Host h) i j = ap Host (omega arith)
-moved-moved Zeros i j = refl
-moved-moved Absent i j = refl
-moved-moved (Refused k) i j = refl
+moved-moved : (f : Result Found ℕ) (i j : ℕ) → moved (moved f i) j ≡ moved f (i + j)
+moved-moved (Ok (Host h)) i j = ap (λ h. Ok (Host h)) (omega arith)
+moved-moved (Ok Zeros) i j = refl
+moved-moved (Ok Absent) i j = refl
+moved-moved (Err k) i j = refl
 
 -- a host offset is small
-pub host_small : (g : Geometry) (s : List ℕ) → Opened g s → (x : ℕ) (f : Found) → x < reach s g.root → f ≡ located s g.root x → found_host f ≤ most_length
-host_small g s o x (Host h) l d = omega (arith, host_in g s o x h l (sym d), o.short)
-host_small g s o x Zeros l d = omega arith
-host_small g s o x Absent l d = omega arith
-host_small g s o x (Refused k) l d = omega arith
+pub host_small : (g : Geometry) (s : List ℕ) → Opened g s → (x : ℕ) (f : Result Found ℕ) → x < reach s g.root → f ≡ located s g.root x → found_host f ≤ most_length
+host_small g s o x (Ok (Host h)) l d = omega (arith, host_in g s o x h l (sym d), o.short)
+host_small g s o x (Ok Zeros) l d = omega arith
+host_small g s o x (Ok Absent) l d = omega arith
+host_small g s o x (Err k) l d = omega arith
 
-module _ (g : Geometry) (s : List ℕ) (o : Opened g s) (x : ℕ) (f : Found) (i left : ℕ) (d : f ≡ located s g.root x) (a : Ahead g s x i left) (t : ℕ) (b : Below s g.root t (x + i) left) where
+module _ (g : Geometry) (s : List ℕ) (o : Opened g s) (x : ℕ) (f : Result Found ℕ) (i left : ℕ) (d : f ≡ located s g.root x) (a : Ahead g s x i left) (t : ℕ) (b : Below s g.root t (x + i) left) where
   abbrev C : ℕ
   C = 2 ^ g.bits
 

@@ -8,33 +8,26 @@ ghost use Rattle.qcow2_spec.specs.Opened.{Opened};
 ghost use Rattle.qcow2_guest.specs.Rows.{Below};
 ghost use Rattle.qcow2_stretch.specs.Going.{Goes, Ahead, row_of};
 
+use qcow2_spec::refusal::{Cause, Refusal};
 use qcow2_spec::{Found, Geometry};
 
-// What lies below an L1 entry.
-#[derive(Clone, Copy)]
-pub enum Row {
-    Bad,
-    Empty,
-    Table(usize),
-}
-
-// What lies below the L1 entry of a guest cluster.
-pub fn row_at(image: &[u8], g: Geometry, guest: u64) -> Row
+// The L2 table below the L1 entry of a guest cluster, if there is one.
+pub fn row_at(image: &[u8], g: Geometry, guest: u64) -> Result<Option<usize>, Refusal>
     requires { (Opened g image.now) × (guest / per_table image.now < root_size image.now g.root) }
     ensures { result ≡ row_of image.now g.root guest }
 {
     let e = qcow2_guest::l1_entry(image, g, guest);
     if e == 0 {
-        return Row::Empty;
+        return Ok(None);
     }
     if qcow2_plain::is_plain(e, image.len() as u64, g.bits) {
-        return Row::Table(qcow2_plain::bare_of(e) as usize);
+        return Ok(Some(qcow2_plain::bare_of(e) as usize));
     }
-    Row::Bad
+    Err(Cause::Entry.into())
 }
 
 // Where byte x of the disk lies, whose L2 entry is in the table at t.
-fn found_below(image: &[u8], g: Geometry, t: usize, x: u64) -> Found
+fn found_below(image: &[u8], g: Geometry, t: usize, x: u64) -> Result<Found, Refusal>
     requires { (Opened g image.now) × (Below image.now g.root t x 1) }
     ensures { result ≡ located image.now g.root x }
 {
@@ -50,20 +43,32 @@ fn found_below(image: &[u8], g: Geometry, t: usize, x: u64) -> Found
 }
 
 // Where byte x of the disk lies, by what is below its L1 entry.
-pub fn found_in(image: &[u8], g: Geometry, w: Row, x: u64) -> Found
+pub fn found_in(
+    image: &[u8],
+    g: Geometry,
+    w: Result<Option<usize>, Refusal>,
+    x: u64,
+) -> Result<Found, Refusal>
     requires { (Opened g image.now) × (w ≡ row_of image.now g.root (x / 2 ^ g.bits)) }
     ensures { result ≡ located image.now g.root x }
 {
-    match w {
-        Row::Bad => Found::Refused(12),
-        Row::Empty => Found::Absent,
-        Row::Table(t) => found_below(image, g, t, x),
+    match w? {
+        None => Ok(Found::Absent),
+        Some(t) => found_below(image, g, t, x),
     }
 }
 
 // How many of the bytes that are left from x + i on, whose L2 entries are in the table at t, go on from x, where f lies.
-fn in_table(image: &[u8], g: Geometry, t: usize, x: u64, f: Found, i: u64, left: u64) -> u64
-    requires { ((Opened g image.now) × (f ≡ located image.now g.root x)) × ((Ahead g image.now x i left) × (Below image.now g.root t (x + i) left)) }
+fn in_table(
+    image: &[u8],
+    g: Geometry,
+    t: usize,
+    x: u64,
+    f: &Result<Found, Refusal>,
+    i: u64,
+    left: u64,
+) -> u64
+    requires { ((Opened g image.now) × (f.now ≡ located image.now g.root x)) × ((Ahead g image.now x i left) × (Below image.now g.root t (x + i) left)) }
     ensures { Goes image.now g.root x i left result }
 {
     let c = power::power(g.bits) as usize;
@@ -79,7 +84,7 @@ fn in_table(image: &[u8], g: Geometry, t: usize, x: u64, f: Found, i: u64, left:
         image.len() as u64,
         g.bits,
     );
-    power::lesser((k - from) * c, left as usize) as u64
+    ((k - from) * c).min(left as usize) as u64
 }
 
 // All bytes, or none.
@@ -90,20 +95,35 @@ fn all_if(t: bool, left: u64) -> u64
 }
 
 // How many of the bytes that are left from x + i on, which all have one L1 entry, go on from x, where f lies.
-fn in_row(image: &[u8], g: Geometry, w: Row, x: u64, f: Found, i: u64, left: u64) -> u64
-    requires { ((Opened g image.now) × (f ≡ located image.now g.root x)) × ((Ahead g image.now x i left) × (w ≡ row_of image.now g.root ((x + i) / 2 ^ g.bits))) }
+fn in_row(
+    image: &[u8],
+    g: Geometry,
+    w: Result<Option<usize>, Refusal>,
+    x: u64,
+    f: &Result<Found, Refusal>,
+    i: u64,
+    left: u64,
+) -> u64
+    requires { ((Opened g image.now) × (f.now ≡ located image.now g.root x)) × ((Ahead g image.now x i left) × (w ≡ row_of image.now g.root ((x + i) / 2 ^ g.bits))) }
     ensures { Goes image.now g.root x i left result }
 {
     match w {
-        Row::Bad => all_if(qcow2_alike::same::same(Found::Refused(12), f), left),
-        Row::Empty => all_if(qcow2_alike::same::same(Found::Absent, f), left),
-        Row::Table(t) => in_table(image, g, t, x, f, i, left),
+        Err(e) => all_if(qcow2_alike::same::same(&Err(e), f), left),
+        Ok(None) => all_if(qcow2_alike::same::same(&Ok(Found::Absent), f), left),
+        Ok(Some(t)) => in_table(image, g, t, x, f, i, left),
     }
 }
 
 // The same where the L1 entry is not known yet.
-pub fn in_next_row(image: &[u8], g: Geometry, x: u64, f: Found, i: u64, left: u64) -> u64
-    requires { ((Opened g image.now) × (f ≡ located image.now g.root x)) × (Ahead g image.now x i left) }
+pub fn in_next_row(
+    image: &[u8],
+    g: Geometry,
+    x: u64,
+    f: &Result<Found, Refusal>,
+    i: u64,
+    left: u64,
+) -> u64
+    requires { ((Opened g image.now) × (f.now ≡ located image.now g.root x)) × (Ahead g image.now x i left) }
     ensures { Goes image.now g.root x i left result }
 {
     let w = row_at(image, g, power::quotient(x + i, g.bits));

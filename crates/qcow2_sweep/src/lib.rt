@@ -1,7 +1,7 @@
 // A sweep over the entries of an L2 table: each visits what it refers to in a window, and is tested.
 #![tactic(auto)]
 
-ghost use Rattle.std.specs.Prelude.{◌≡◌, ◌+◌, ◌*◌, ◌%◌, ◌^◌, ◌≤◌, ◌&&◌, length, nat_eq, if◌then◌else◌};
+ghost use Rattle.std.specs.Prelude.{◌≡◌, ◌+◌, ◌*◌, ◌%◌, ◌^◌, ◌≤◌, length, nat_eq, if◌then◌else◌};
 ghost use Rattle.choice.specs.Pick.{all};
 ghost use Rattle.tally.specs.Tally.{joined};
 ghost use Rattle.window.specs.Window.{board, visit_all_in};
@@ -10,8 +10,8 @@ ghost use Rattle.qcow2_spec.specs.References.{l2_refs};
 ghost use Rattle.qcow2_groups.specs.Walks.{fore, whole};
 ghost use Rattle.qcow2_sweep.specs.Sweeps.{Whole, passes_by, group};
 
-// The kind of a visit that sets one bit.
-const BITS: u16 = 512;
+// The kind of a visit that sets one bit. Kinds are numbers and no enum: the two bytes that `tally` keeps for a cluster hold them.
+pub const BITS: u16 = 512;
 
 // The lowest cluster that was reached again, and whether what was swept passes.
 #[derive(Clone, Copy)]
@@ -83,16 +83,6 @@ fn sweep_entry(
     }
 }
 
-// Whether both hold.
-pub fn both(a: bool, b: bool) -> bool
-    ensures { result ≡ (a && b) }
-{
-    if a {
-        return b;
-    }
-    false
-}
-
 // The same for 64 entries of an L2 table from i on: whether all pass.
 fn sweep_each(
     table: &[u8],
@@ -111,13 +101,11 @@ fn sweep_each(
     let end = i + 64;
     let mut least = low;
     let mut good = true;
-    let mut j = i;
-    while j < end {
+    for j in i..end {
         let e = endian::load64(table, 8 * j);
         let t = sweep_entry(target, least, e, version, bits, n, kind, b);
         least = t.low;
-        good = both(good, t.good);
-        j += 1;
+        good &= t.good;
     }
     Took { low: least, good }
 }
@@ -159,16 +147,13 @@ fn first_failing(table: &[u8], i: usize, version: u32, bits: u32, n: u64, kind: 
     ensures { result ≡ i + fore (passes_by kind version (2 ^ bits) n) (group table.now i) }
 {
     let end = i + 64;
-    let mut j = i;
-    while j < end {
+    for j in i..end {
         let e = endian::load64(table, 8 * j);
-        if entry_passes(e, version, bits, n, kind) {
-            j += 1;
-        } else {
+        if !entry_passes(e, version, bits, n, kind) {
             return j;
         }
     }
-    j
+    end
 }
 
 // How many entries at the front of a table pass once 64 more from j on are swept, where r of the j before did: all of them pass or not.
@@ -208,15 +193,13 @@ pub fn sweep_table(
     requires { (Whole bits n × (kind ≤ 512)) × (length table.now % 512 ≡ 0) }
     ensures { (result.fore ≡ fore (passes_by kind version (2 ^ bits) n) (whole table.now)) × (board target.new result.low ≡ visit_all_in kind b (joined (l2_refs version (2 ^ bits) n) (whole table.now)) (board target.old low)) }
 {
-    let per = table.len() / 8;
     let mut least = low;
     let mut r = 0;
-    let mut j = 0;
-    while j < per {
+    for d in 0..table.len() / 512 {
+        let j = 64 * d;
         let t = sweep_group(table, target, least, j, version, bits, n, kind, b);
         least = t.low;
         r = front_after(table, r, j, t.good, version, bits, n, kind);
-        j += 64;
     }
     Seen {
         low: least,

@@ -17,11 +17,23 @@ use Rattle.qcow2_spec.specs.Entries.{place}
 use Rattle.qcow2_spec.specs.References.{l2_entries}
 use Rattle.qcow2_spec.specs.Check.{or_else, l2_verdict, entry_verdict, l1_verdict}
 use Rattle.qcow2_spec.specs.declared.Verdict.{Verdict}
-use Rattle.qcow2_spec.specs.declared.Verdict.TheVariants.{Sound, BadL1, BadL2}
+use Rattle.qcow2_spec.specs.declared.Verdict.TheVariants.{Sound, Leaks, BadL1, BadL2, Shared, Short, MarkL1, MarkL2, Refused}
 use Rattle.qcow2_spec.proofs.Else.{else_else, else_sound, Damage, entry_else}
 use Rattle.qcow2_groups.specs.Walks.{fore}
 use Rattle.qcow2_sweep.specs.Sweeps.{passes_by}
 use Rattle.qcow2_swept.specs.Rows.{passes_l1_by, seek_by, row_fore, named_by}
+
+-- a verdict that is not sound comes first
+pub else_first : (v next : Verdict) → (v ≡ Sound → ⊥) → v ≡ or_else v next
+else_first Sound next h = absurd (h refl)
+else_first (Leaks m) next h = refl
+else_first (BadL1 t i) next h = refl
+else_first (BadL2 t i j) next h = refl
+else_first (Shared k) next h = refl
+else_first (Short k) next h = refl
+else_first (MarkL1 i) next h = refl
+else_first (MarkL2 i j) next h = refl
+else_first (Refused k) next h = refl
 
 -- ---- by how many pass at the front
 module _ (t i fore per : ℕ) where

@@ -15,10 +15,7 @@ ghost use Rattle.qcow2_sweep.specs.Sweeps.{passes_by};
 ghost use Rattle.qcow2_swept.specs.Rows.{seek_by, row_fore, named_by, Blank};
 
 use qcow2_spec::{Geometry, Verdict};
-use qcow2_sweep::Seen;
-
-// The kind of a visit that sets one bit.
-const BITS: u16 = 512;
+use qcow2_sweep::{BITS, Seen};
 
 // The lowest cluster that was reached again, and the first entry that failed: Sound where none did.
 #[derive(Clone, Copy)]
@@ -118,14 +115,7 @@ fn named(found: Verdict, t: usize, i: usize, fore: usize, per: usize) -> Verdict
             }
             Verdict::BadL1(t, i)
         }
-        Verdict::Leaks(_) => found,
-        Verdict::BadL1(_, _) => found,
-        Verdict::BadL2(_, _, _) => found,
-        Verdict::Shared(_) => found,
-        Verdict::Short(_) => found,
-        Verdict::MarkL1(_) => found,
-        Verdict::MarkL2(_, _) => found,
-        Verdict::Refused(_) => found,
+        _ => found,
     }
 }
 
@@ -163,16 +153,15 @@ fn skip_groups(image: &[u8], at: usize, i: usize, to: usize) -> usize
     requires { (i ≤ to) × (at + 8 * to ≤ length image.now) }
     ensures { Blank image.now at i result × (result ≤ to) }
 {
-    let mut j = i;
-    while 64 <= to - j {
+    let groups = (to - i) / 64;
+    for d in 0..groups {
+        let j = i + 64 * d;
         let p = at + 8 * j;
-        if blank::all_zeros(&image[p..p + 512]) {
-            j += 64;
-        } else {
+        if !blank::all_zeros(&image[p..p + 512]) {
             return j;
         }
     }
-    j
+    i + 64 * groups
 }
 
 // The first that is not 0. Mostly it is the first of all.
@@ -183,14 +172,12 @@ fn skip(image: &[u8], at: usize, i: usize, to: usize) -> usize
     if endian::load64(image, at + 8 * i) != 0 {
         return i;
     }
-    let mut j = skip_groups(image, at, i, to);
-    while j < to {
+    for j in skip_groups(image, at, i, to)..to {
         if endian::load64(image, at + 8 * j) != 0 {
             return j;
         }
-        j += 1;
     }
-    j
+    to
 }
 
 // The L1 entries from one up to another. Those that are 0 are passed over.
@@ -210,6 +197,7 @@ pub fn sweep_rows(
 {
     let mut s = w;
     let mut i = from;
+    // A `while`: each turn goes on behind the entry that `skip` has found, and not behind i.
     while i < to {
         let k = skip(image, g.l1at, i, to);
         if k == to {

@@ -24,11 +24,8 @@ pub fn all_named(table: &[u8], count: usize, n: u64, bits: u32) -> bool
     requires { (((9 ≤ bits) × (bits ≤ most_bits)) × (2 ^ bits ≤ n)) × (8 * count ≤ length table.now) }
     ensures { result ≡ all (good_block (2 ^ bits) n) (entries count table.now) }
 {
-    let mut i = 0;
-    while i < count {
-        if names_block(endian::load64(table, 8 * i), n, bits) {
-            i += 1;
-        } else {
+    for i in 0..count {
+        if !names_block(endian::load64(table, 8 * i), n, bits) {
             return false;
         }
     }

@@ -1,7 +1,7 @@
 // Taking L1 entries, table by table: the references through them are added to the scratch, and the first bad one is named.
 #![tactic(auto)]
 
-ghost use Rattle.std.specs.Prelude.{◌≡◌, ◌-◌, ◌*◌, ◌≤◌, ◌<◌, length, take as take_of};
+ghost use Rattle.std.specs.Prelude.{◌≡◌, ◌*◌, ◌≤◌, ◌<◌, length, take as take_of};
 ghost use Rattle.qcow2_spec.specs.Opened.{Active};
 ghost use Rattle.qcow2_portions.specs.Rows.{ahead, added, met, root_after, row_after, started};
 ghost use Rattle.qcow2_take.specs.Taking.{Takes};
@@ -27,24 +27,14 @@ pub fn begin(image: &[u8], scratch: &mut [u8], g: Geometry)
     qcow2_fixed::visit_fixed(image, scratch, 0, g, 0, 0);
 }
 
-// How many entries a table of so many has from an index on.
-fn rest_of(rows: usize, row: usize) -> usize
-    ensures { result ≡ rows - row }
-{
-    if row < rows {
-        return rows - row;
-    }
-    0
-}
-
 // Those of one table, at most as many as are still to be taken.
 fn take_table(w: Taking, image: &[u8], scratch: &mut [u8], g: Geometry) -> Taking
     requires { (Active g image.now × (length scratch.old ≡ 2 * g.clusters)) × ((0 < w.left) × (w.left ≤ length (ahead image.now w.root w.row))) }
     ensures { Takes image.now w scratch.old result scratch.new }
 {
     let r = qcow2_snapshots::root_at(image, g, w.root);
-    let here = rest_of(r.l1size, w.row);
-    let from = power::lesser(w.row, r.l1size);
+    let here = r.l1size.saturating_sub(w.row);
+    let from = w.row.min(r.l1size);
     let found = w.found;
     let s = Sweep { low: 0, found };
     if w.left <= here {
@@ -86,6 +76,7 @@ pub fn take(
         left: count,
         found,
     };
+    // A `while`: what is left is a part of the state that each step hands on (`Takes`).
     while 0 < w.left {
         w = take_table(w, image, scratch, g);
     }

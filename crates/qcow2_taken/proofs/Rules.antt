@@ -11,7 +11,7 @@ use borrow.Author.Tests.{ltb-false}
 use Rattle.choice.specs.Pick.{unless, all}
 use Rattle.choice.proofs.Tests.{if_zero, or-false}
 use Rattle.endian.proofs.Entries.{part-rest, be64-drop}
-use Rattle.qcow2_spec.specs.Header.{least_length, cluster_size, per_table, per_block, table, block_at, blocks, backing_number, snapshot_number, header_number}
+use Rattle.qcow2_spec.specs.Header.{least_length, cluster_size, per_table, per_block, table, block_at, backing_number, snapshot_number, header_number}
 use Rattle.qcow2_spec.specs.Opened.{geometry}
 use Rattle.qcow2_spec.specs.declared.Geometry.{Geometry}
 use Rattle.qcow2_spec.proofs.Facts.{unless-zero}

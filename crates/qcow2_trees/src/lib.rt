@@ -82,10 +82,8 @@ pub fn walk_roots(image: &[u8], scratch: &mut [u8], g: Geometry, states: bool) -
         row: 0,
         below: 0,
     };
-    let mut t = 0;
-    while t < g.snapshots + 1 {
+    for t in 0..g.snapshots + 1 {
         f = next_root(f, image, scratch, g, t, states);
-        t += 1;
     }
     f
 }

@@ -15,7 +15,7 @@ fn put_lent(part: &mut [u8], backing: &[u8], x: u64)
         return;
     }
     let at = x as usize;
-    let m = power::lesser(n, len - at);
+    let m = n.min(len - at);
     copy::bytes(part, 0, &backing[at..at + m], m);
     copy::zeros(part, m, n - m);
 }

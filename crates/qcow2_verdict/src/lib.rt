@@ -25,9 +25,10 @@ pub fn judge_blocks(image: &[u8], scratch: &[u8], g: Geometry) -> Counted
     let mut d = Counted { low: n, over: 0 };
     let mut b = 0;
     let mut k = 0;
+    // A `while`: block and cluster go on together, and the last block may be short.
     while k < n {
         let at = qcow2_counts::block_at(image, g, b);
-        let m = power::lesser(per, n - k);
+        let m = per.min(n - k);
         d = qcow2_block::judge_block(d, image, scratch, g.order, at, k, m);
         if d.low < n {
             return d;

@@ -1,8 +1,9 @@
 -- What a listing answers and leaves, by the plan. Assumes nothing.
+use Rattle.std.specs.Prelude.{Err, Ok}
 use Prim.Native.Nat.{ℕ, ◌*◌, ◌/◌, ◌<◌, min}
 use native.Mathlib.Nat.{min-zero}
 use native.Mathlib.Omega.{arith}
-use mathlib.Core.Path.{◌≡◌, refl, sym, ◌∙◌}
+use mathlib.Core.Path.{◌≡◌, refl, sym, ap, ◌∙◌}
 use mathlib.Core.List.{List, [], ◌∷◌, ◌++◌, append-nil}
 use lib.ListN.{length}
 use lib.Seq.{take-nil, drop-nil, take-append_seam, drop-append_seam}
@@ -10,8 +11,6 @@ use Rattle.choice.proofs.Each.{length-each}
 use Rattle.endian.specs.Big.{splice}
 use Rattle.units.specs.Units.{UnitStore}
 use Rattle.units.specs.Plan.{Plan, refused, units, plan_units}
-use Rattle.qcow2_spec.specs.declared.Listed.{Listed}
-use Rattle.qcow2_spec.specs.declared.Listed.TheVariants.{Refused, Rows}
 use Rattle.qcow2_spec.specs.Header.{cluster_size}
 use Rattle.qcow2_spec.specs.Store.{clear_units, clearing, backing_cluster}
 use Rattle.qcow2_spec.specs.Flush.{stores_entry, halves, epochs}
@@ -32,11 +31,11 @@ unfolding epochs step_rows rows_of extents stores_entry
 steps-none s = rw (take-nil, drop-nil, halves-none [] refl)
 
 module _ (s : List ℕ) (p : Plan) (out : List ℕ) where
-  pub list_refused : (k : ℕ) → p ≡ refused k → Listing s p out (Refused k) out
+  pub list_refused : (k : ℕ) → p ≡ refused k → Listing s p out (Err k) out
   unfolding list_steps steps_into steps plan_units
   list_refused k e = rw e (record { answer = refl; left = rw (steps-none s) (sym (put-none out)) })
 
-  pub list_none : p ≡ units [] → Listing s p out (Rows 0) out
+  pub list_none : p ≡ units [] → Listing s p out (Ok 0) out
   unfolding list_steps steps_into steps plan_units
   list_none e = rw e (record { answer = rw (steps-none s, min-zero); left = rw (steps-none s) (sym (put-none out)) })
 
@@ -49,13 +48,13 @@ steps-some s us = rw (take-append_seam (clear_units s) us, drop-append_seam (cle
 pub put_all : (new out now : List ℕ) (r : ℕ) → Puts new out 0 now r → Put out new now r
 put_all new out now r f = f out [] (record { put = sym (put-none out); many = refl })
 
-pub list_units : (s : List ℕ) (us : List UnitStore) (out t now : List ℕ) (k n : ℕ) (r : Listed) → Puts (rows_of 0 (extents (clear_units s))) out 0 t k → Puts (step_rows 1 (halves us)) t k now n
-    → length now ≡ length out → r ≡ Rows (min (length now / 4) n) → Listing s (units (clear_units s ++ us)) out r now
+pub list_units : (s : List ℕ) (us : List UnitStore) (out t now : List ℕ) (k n r : ℕ) → Puts (rows_of 0 (extents (clear_units s))) out 0 t k → Puts (step_rows 1 (halves us)) t k now n
+    → length now ≡ length out → r ≡ min (length now / 4) n → Listing s (units (clear_units s ++ us)) out (Ok r) now
 unfolding list_steps steps_into
 list_units s us out t now k n r f g e h =
     let p = put_all _ out now n (puts_then f g) in
     let m : length (rows_of 0 (extents (clear_units s)) ++ step_rows 1 (halves us)) / 4 ≡ n = omega (arith, p.many) in
-    record { answer = rw (steps-some s us, m, ← e) h; left = rw (steps-some s us) p.put }
+    record { answer = rw (steps-some s us, m, ← e) (ap Ok h); left = rw (steps-some s us) p.put }
 
 -- a repair's units are counts alone, all in epoch 1
 pub rows-repair : (s fs : List ℕ) (n : ℕ) → step_rows 1 (halves (repair_units s fs 0 n)) ≡ rows_of 1 (extents (repair_units s fs 0 n))

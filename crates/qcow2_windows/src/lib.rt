@@ -26,7 +26,7 @@ fn look_in(image: &[u8], scratch: &[u8], window: &mut [u8], g: Geometry) -> Look
         return Looked {
             shared: w.shared,
             good: w.own,
-            right: qcow2_sweep::both(w.own, w.same),
+            right: w.own & w.same,
         };
     }
     let w = qcow2_states::look(image, window, g);
@@ -37,32 +37,12 @@ fn look_in(image: &[u8], scratch: &[u8], window: &mut [u8], g: Geometry) -> Look
     }
 }
 
-// A window of few bytes and one of many. Each is a function so that its length is all that is known of it.
-fn small() -> [u8; 1024]
-    ensures { 1024 ≡ length result }
-{
-    [0; 1024]
-}
-
-fn large() -> [u8; 65536]
-    ensures { 65536 ≡ length result }
-{
-    [0; 65536]
-}
-
-fn look_small(image: &[u8], scratch: &[u8], g: Geometry) -> Looked
-    requires { Active g image.now × (length scratch.now ≡ 2 * g.clusters) }
+// By a window of N bytes.
+fn look_by<const N: usize>(image: &[u8], scratch: &[u8], g: Geometry) -> Looked
+    requires { (Active g image.now × (length scratch.now ≡ 2 * g.clusters)) × ((2 ≤ N) × (N ≤ 65536)) }
     ensures { Looks image.now scratch.now result }
 {
-    let mut w = small();
-    look_in(image, scratch, &mut w, g)
-}
-
-fn look_large(image: &[u8], scratch: &[u8], g: Geometry) -> Looked
-    requires { Active g image.now × (length scratch.now ≡ 2 * g.clusters) }
-    ensures { Looks image.now scratch.now result }
-{
-    let mut w = large();
+    let mut w = [0; N];
     look_in(image, scratch, &mut w, g)
 }
 
@@ -72,7 +52,7 @@ pub fn look(image: &[u8], scratch: &[u8], g: Geometry) -> Looked
     ensures { Looks image.now scratch.now result }
 {
     if g.clusters <= 512 {
-        return look_small(image, scratch, g);
+        return look_by::<1024>(image, scratch, g);
     }
-    look_large(image, scratch, g)
+    look_by::<65536>(image, scratch, g)
 }

@@ -1,7 +1,7 @@
 // A write once the way is found. What it is to store is found before the first store.
 #![tactic(auto)]
 
-ghost use Rattle.std.specs.Prelude.{◌≡◌, ◌+◌, ◌*◌, ◌^◌, ◌≤◌, ◌<◌, [], ◌++◌, length, if◌then◌else◌};
+ghost use Rattle.std.specs.Prelude.{◌≡◌, ◌+◌, ◌*◌, ◌^◌, ◌≤◌, ◌<◌, [], ◌++◌, length, if◌then◌else◌, Ok};
 ghost use Rattle.units.specs.Plan.{units as planned, Done};
 ghost use Rattle.fills.specs.Padded.{padded};
 ghost use Rattle.qcow2_spec.specs.Header.{most_bits, most_reach, most_length};
@@ -11,9 +11,10 @@ ghost use Rattle.qcow2_spec.specs.Ready.{Ready};
 ghost use Rattle.qcow2_jobs.specs.Jobs.{JobIn, job_units};
 ghost use Rattle.qcow2_write.specs.Base.{Base};
 
-use qcow2_jobs::finding::{Decision, Job};
+use qcow2_jobs::finding::Job;
+use qcow2_spec::refusal::Refusal;
 use qcow2_spec::{Geometry, Way};
-use units::Outcome;
+use units::Ended;
 
 // The bytes that lie under a guest cluster: a part of those that are lent, cut off at their end and at the disk's, or none where there is no
 // backing file. Zeros follow them.
@@ -26,9 +27,9 @@ fn base_of<'a>(backing: &'a [u8], g: Geometry, guest: u64) -> &'a [u8]
     }
     let c = qcow2_counts::bytes_of(g.bits);
     let x = guest as usize * c;
-    let m = power::lesser(c, g.size as usize - x);
-    let at = power::lesser(x, backing.len());
-    let k = power::lesser(m, backing.len() - at);
+    let m = c.min(g.size as usize - x);
+    let at = x.min(backing.len());
+    let k = m.min(backing.len() - at);
     &backing[at..at + k]
 }
 
@@ -51,9 +52,9 @@ fn put_job(
     src: &[u8],
     o: usize,
     left: usize,
-) -> Outcome
+) -> Ended
     requires { (JobIn (length image.old) c job × ((o + length src.now ≤ c) × (length base.now ≤ c))) × (length image.old ≤ most_length) }
-    ensures { Done (planned (job_units job c o (padded c base.now) src.now)) left image.old result image.new }
+    ensures { Done (planned (job_units job c o (padded c base.now) src.now)) left image.old (Ok result) image.new }
 {
     match job {
         Job::Bytes(p) => qcow2_put::linking::put_bytes(image, p + o, src, left),
@@ -83,9 +84,9 @@ fn store(
     src: &[u8],
     o: usize,
     allowance: usize,
-) -> Outcome
+) -> Ended
     requires { (Opened g image.old × JobIn (length image.old) (2 ^ g.bits) job) × (((o + length src.now ≤ 2 ^ g.bits) × (length base.now ≤ 2 ^ g.bits)) × (0 < length src.now)) }
-    ensures { Done (planned (clear_units image.old ++ job_units job (2 ^ g.bits) o (padded (2 ^ g.bits) base.now) src.now)) allowance image.old result image.new }
+    ensures { Done (planned (clear_units image.old ++ job_units job (2 ^ g.bits) o (padded (2 ^ g.bits) base.now) src.now)) allowance image.old (Ok result) image.new }
 {
     let left = qcow2_clear::clear(image, g, allowance);
     let c = qcow2_counts::bytes_of(g.bits);
@@ -103,16 +104,11 @@ pub fn write_way(
     src: &[u8],
     o: usize,
     allowance: usize,
-) -> Outcome
-    requires { ((Active g image.old × Ready g image.old way guest) × (guest * 2 ^ g.bits < g.size)) × ((o + length src.now ≤ 2 ^ g.bits) × (0 < length src.now)) }
-    ensures { Done (clearing image.old (write_way backing.now image.old way guest o src.now)) allowance image.old result image.new }
+) -> Result<Ended, Refusal>
+    requires { ((Active g image.old × Ready g image.old (Ok way) guest) × (guest * 2 ^ g.bits < g.size)) × ((o + length src.now ≤ 2 ^ g.bits) × (0 < length src.now)) }
+    ensures { Done (clearing image.old (write_way backing.now image.old (Ok way) guest o src.now)) allowance image.old result image.new }
 {
-    let found = qcow2_jobs::finding::find_job(image, g, way, guest);
-    match found {
-        Decision::Refuse(k) => Outcome::Refused(k),
-        Decision::Store(job) => {
-            let base = base_of(backing, g, guest);
-            store(image, g, job, base, src, o, allowance)
-        }
-    }
+    let job = qcow2_jobs::finding::find_job(image, g, way, guest)?;
+    let base = base_of(backing, g, guest);
+    Ok(store(image, g, job, base, src, o, allowance))
 }

@@ -11,7 +11,7 @@ fn turned(s: &[u8], at: usize) -> u16
     requires { at + 2 ≤ length s.now }
     ensures { result % 256 * 256 + result / 256 ≡ be16 s.now at }
 {
-    endian::wide16(s[at]) + endian::wide16(s[at + 1]) * 256
+    u16::from_le_bytes([s[at], s[at + 1]])
 }
 
 // Whether the number whose bytes are turned round in t is flagged, or one was found before.
@@ -39,10 +39,8 @@ fn some_bad(scratch: &[u8], n: usize) -> bool
     ensures { result ≡ ltb (first (flag_at false scratch.now) 0 n) n }
 {
     let mut found = false;
-    let mut k = 0;
-    while k < n {
+    for k in 0..n {
         found = flag_or(turned(scratch, 2 * k), false, found);
-        k += 1;
     }
     found
 }
@@ -53,18 +51,10 @@ fn some_double(scratch: &[u8], n: usize) -> bool
     ensures { result ≡ false → n ≡ first (flag_at true scratch.now) 0 n }
 {
     let mut seen: u16 = 0;
-    let mut k = 0;
-    while k < n {
-        seen = seen | turned(scratch, 2 * k);
-        k += 1;
+    for k in 0..n {
+        seen |= turned(scratch, 2 * k);
     }
-    if seen == 0 {
-        return false;
-    }
-    if seen == 256 {
-        return false;
-    }
-    true
+    seen != 0 && seen != 256
 }
 
 // The lowest of n clusters that is flagged; n where none is.
@@ -72,14 +62,12 @@ fn lowest(scratch: &[u8], n: usize, alone: bool) -> usize
     requires { 2 * n ≤ length scratch.now }
     ensures { result ≡ first (flag_at alone scratch.now) 0 n }
 {
-    let mut k = 0;
-    while k < n {
+    for k in 0..n {
         if flag_or(turned(scratch, 2 * k), alone, false) {
             return k;
         }
-        k += 1;
     }
-    k
+    n
 }
 
 // The lowest cluster that is shared; their number where there is none. Mostly there is none.

@@ -13,7 +13,7 @@ use Rattle.choice.proofs.Searches.{first_turn, count_turn, count_turns, count_mo
 use Rattle.choice.proofs.Runs.{first_miss}
 use Rattle.choice.proofs.Found.{first-false}
 use Rattle.tally.specs.Tally.{sign_of, counted, Counting}
-use Rattle.tally.specs.declared.Sign.TheVariants.{Short, Even, Over}
+use Rattle.std.specs.declared.cmp.Ordering.TheVariants.{Less, Equal, Greater}
 use Rattle.tally.specs.declared.Counted.{Counted}
 
 module _ (p q : ℕ → Bool) (N : ℕ) where
@@ -73,39 +73,39 @@ module _ (p q : ℕ → Bool) (N : ℕ) where
 
 -- what a sign tells
 module _ (x y : ℕ) where
-  pub short_means : sign_of x y ≡ Short → (ltb x y ≡ true) × (ltb y x ≡ false)
+  pub short_means : sign_of x y ≡ Less → (ltb x y ≡ true) × (ltb y x ≡ false)
   unfolding sign_of
   short_means h = go (ltb x y) refl (eqb x y) h
     where
-      go : (t : Bool) → ltb x y ≡ t → (u : Bool) → (if t then Short else if u then Even else Over) ≡ Short → (ltb x y ≡ true) × (ltb y x ≡ false)
+      go : (t : Bool) → ltb x y ≡ t → (u : Bool) → (if t then Less else if u then Equal else Greater) ≡ Less → (ltb x y ≡ true) × (ltb y x ≡ false)
       go true e u g = (e, le-ltb y x (omega (arith, ltb-true x y e)))
       go false e true g = absurd (let z : ◌≡◌ {A = ℕ} 0 1 = cc in omega arith)
       go false e false g = absurd (let z : ◌≡◌ {A = ℕ} 0 1 = cc in omega arith)
 
-  pub even_means : sign_of x y ≡ Even → (ltb x y ≡ false) × (ltb y x ≡ false)
+  pub even_means : sign_of x y ≡ Equal → (ltb x y ≡ false) × (ltb y x ≡ false)
   unfolding sign_of
   even_means h = go (ltb x y) refl (eqb x y) refl h
     where
-      go : (t : Bool) → ltb x y ≡ t → (u : Bool) → eqb x y ≡ u → (if t then Short else if u then Even else Over) ≡ Even → (ltb x y ≡ false) × (ltb y x ≡ false)
+      go : (t : Bool) → ltb x y ≡ t → (u : Bool) → eqb x y ≡ u → (if t then Less else if u then Equal else Greater) ≡ Equal → (ltb x y ≡ false) × (ltb y x ≡ false)
       go true e u f g = absurd (let z : ◌≡◌ {A = ℕ} 0 1 = cc in omega arith)
       go false e true f g = (e, le-ltb y x (omega (arith, eqb-true x y f)))
       go false e false f g = absurd (let z : ◌≡◌ {A = ℕ} 0 1 = cc in omega arith)
 
-  pub over_means : sign_of x y ≡ Over → (ltb x y ≡ false) × (ltb y x ≡ true)
+  pub over_means : sign_of x y ≡ Greater → (ltb x y ≡ false) × (ltb y x ≡ true)
   unfolding sign_of
   over_means h = go (ltb x y) refl (eqb x y) refl h
     where
-      go : (t : Bool) → ltb x y ≡ t → (u : Bool) → eqb x y ≡ u → (if t then Short else if u then Even else Over) ≡ Over → (ltb x y ≡ false) × (ltb y x ≡ true)
+      go : (t : Bool) → ltb x y ≡ t → (u : Bool) → eqb x y ≡ u → (if t then Less else if u then Equal else Greater) ≡ Greater → (ltb x y ≡ false) × (ltb y x ≡ true)
       go true e u f g = absurd (let z : ◌≡◌ {A = ℕ} 0 1 = cc in omega arith)
       go false e true f g = absurd (let z : ◌≡◌ {A = ℕ} 0 1 = cc in omega arith)
       go false e false f g = (e, lt-ltb y x (let n : x ≡ y → ⊥ = eqb-false x y f in omega (arith, ltb-false x y e)))
 
   -- one cluster more, by its sign
-  pub counted-found : (N k : ℕ) (c : Counted) → sign_of x y ≡ Short → c.low < N → c ≡ counted N k x y c
+  pub counted-found : (N k : ℕ) (c : Counted) → sign_of x y ≡ Less → c.low < N → c ≡ counted N k x y c
   unfolding counted
   counted-found N k c h l = rw ((short_means h).0, (short_means h).1, lt-ltb c.low N l, add-zero)
 
-  pub counted-short : (N k : ℕ) (c : Counted) → sign_of x y ≡ Short → N ≤ c.low → record { low = k; over = c.over } ≡ counted N k x y c
+  pub counted-short : (N k : ℕ) (c : Counted) → sign_of x y ≡ Less → N ≤ c.low → record { low = k; over = c.over } ≡ counted N k x y c
   unfolding counted
   counted-short N k c h l = rw ((short_means h).0, (short_means h).1, le-ltb c.low N l, add-zero)
 
@@ -113,10 +113,10 @@ module _ (x y : ℕ) where
   same true n = refl
   same false n = refl
 
-  pub counted_even : (N k : ℕ) (c : Counted) → sign_of x y ≡ Even → c ≡ counted N k x y c
+  pub counted_even : (N k : ℕ) (c : Counted) → sign_of x y ≡ Equal → c ≡ counted N k x y c
   unfolding counted
   counted_even N k c h = rw ((even_means h).0, (even_means h).1, same (ltb c.low N) c.low, add-zero)
 
-  pub counted-over : (N k : ℕ) (c : Counted) → sign_of x y ≡ Over → record { low = c.low; over = c.over + 1 } ≡ counted N k x y c
+  pub counted-over : (N k : ℕ) (c : Counted) → sign_of x y ≡ Greater → record { low = c.low; over = c.over + 1 } ≡ counted N k x y c
   unfolding counted
   counted-over N k c h = rw ((over_means h).0, (over_means h).1, same (ltb c.low N) c.low)

@@ -9,7 +9,7 @@ ghost use Rattle.tally.specs.States.{step as step_of, visited, unpacked};
 fn more(x: u16) -> u16
     ensures { result ≡ min 65535 (x + 1) }
 {
-    if x < 65535 { x + 1 } else { 65535 }
+    x.saturating_add(1)
 }
 
 // One reference more to cluster c, where references are counted alone. Mostly the lower byte alone changes.
@@ -81,10 +81,7 @@ pub fn unpack(scratch: &mut [u8])
     requires { length scratch.old % 2 ≡ 0 }
     ensures { scratch.new ≡ unpacked scratch.old (length scratch.old / 2) }
 {
-    let n = scratch.len() / 2;
-    let mut k = 0;
-    while k < n {
+    for k in 0..scratch.len() / 2 {
         unpack_one(scratch, k);
-        k += 1;
     }
 }

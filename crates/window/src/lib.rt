@@ -16,7 +16,7 @@ fn visit_bit(target: &mut [u8], low: usize, j: usize, c: usize) -> usize
         return low;
     }
     if widths::load(target, 0, j) == 1 {
-        return power::lesser(low, c);
+        return low.min(c);
     }
     widths::store(target, 0, j, 1);
     low
@@ -54,10 +54,8 @@ pub fn visit_run(target: &mut [u8], low: usize, b: usize, i: usize, k: usize, ki
     ensures { board target.new result ≡ visit_all_in kind b (run i k) (board target.old low) }
 {
     let mut least = low;
-    let mut j = 0;
-    while j < k {
+    for j in 0..k {
         least = visit(target, least, b, i + j, kind);
-        j += 1;
     }
     least
 }

@@ -1,15 +1,11 @@
 use native.Mathlib.Omega.{arith}
-use Prim.Native.Nat.{◌+◌, ◌-◌, ◌*◌}
+use Prim.Native.Nat.{◌+◌, ◌*◌}
 use mathlib.Core.Path.{◌≡◌}
-use mathlib.Core.Bool.{false≢true}
 use Rattle.bit_figures.proofs.Laws.{alike_none, alike_less, alike_append}
 use Rattle.bit_figures.proofs.bytes.Goals as goal
 
 pub loop-j-init : goal.loop-j-init
 loop-j-init c = alike_none _ _ _ _ (omega arith)
-
-pub returns-then-differ-ne0 : goal.returns-then-differ-ne0
-returns-then-differ-ne0 c = λ h. absurd (false≢true h)
 
 pub loop-j-preserved : goal.loop-j-preserved
 loop-j-preserved c =

@@ -1,15 +1,11 @@
 use native.Mathlib.Omega.{arith}
-use Prim.Native.Nat.{◌+◌, ◌-◌, ◌*◌}
+use Prim.Native.Nat.{◌+◌, ◌*◌}
 use mathlib.Core.Path.{◌≡◌}
-use mathlib.Core.Bool.{false≢true}
 use Rattle.bit_figures.proofs.Laws.{alike_none, alike_less, alike_append}
 use Rattle.bit_figures.proofs.groups.Goals as goal
 
 pub loop-g-init : goal.loop-g-init
 loop-g-init c = alike_none _ _ _ _ (omega arith)
-
-pub returns-then-group-ne0 : goal.returns-then-group-ne0
-returns-then-group-ne0 c = λ h. absurd (false≢true h)
 
 pub loop-g-preserved : goal.loop-g-preserved
 loop-g-preserved c =

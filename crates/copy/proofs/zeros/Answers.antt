@@ -1,24 +1,13 @@
 use borrow.Author.Rules.{rules}
+use mathlib.Core.Path.{◌≡◌}
 use native.Mathlib.Omega.{arith}
-use Prim.Native.Nat.{◌-◌}
-use mathlib.Core.Path.{◌≡◌, refl, sym}
-use lib.ListN.{length-set}
-use Rattle.endian.proofs.Laws.{splice-none}
-use Rattle.copy.proofs.Laws.{more-zeros}
+use lib.ListN.{length, length-drop, length-replicate, length-take, replicate}
+use Rattle.endian.proofs.Laws.{put_mid-splice}
 use Rattle.copy.proofs.zeros.Goals as goal
-
-pub loop-i-init : goal.loop-i-init
-loop-i-init c = (search rules, refl, sym (splice-none _ _))
-
-pub bounds-s-at : goal.bounds-s-at
-bounds-s-at c = omega arith
-
-pub loop-i-preserved : goal.loop-i-preserved
-loop-i-preserved c =
-    let a = c.args in
-    (search rules, simp length-set (omega arith), cc (more-zeros a.s.now a.at c.loop-i.i (omega arith)))
 
 pub returns : goal.returns
 returns c =
-    let e : c.loop-i.i ≡ c.args.n = omega arith in
-    cc
+    let part = c.fill.new.self in
+    let h : length part ≡ c.args.n = omega (arith, simp (length-take, length-drop) at c.fill.ensures.len) in
+    let e : part ≡ replicate (length part) 0 = search rules in
+    put_mid-splice _ _ _ part _ (rw h at e) (length-replicate c.args.n 0)

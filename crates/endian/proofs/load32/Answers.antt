@@ -1,7 +1,8 @@
-use borrow.Author.Rules.{rules}
-use Rattle.endian.specs.Big.{be32}
+use native.Mathlib.Nat.{add_assoc}
+use native.Mathlib.Omega.{arith}
+use Rattle.endian.specs.Big.{be32, be16}
 use Rattle.endian.proofs.load32.Goals as goal
 
 pub returns : goal.returns
-unfolding be32
-returns c = search rules
+unfolding be32 be16
+returns c = simp add_assoc (omega (arith, c.from_be_bytes.ensures))

@@ -1,9 +1,8 @@
+use native.Mathlib.Nat.{add_assoc}
 use native.Mathlib.Omega.{arith}
-use lib.Dec.{lit≤}
-use Rattle.endian.specs.Big.{be64}
-use Rattle.endian.proofs.Laws.{or_shl}
+use Rattle.endian.specs.Big.{be64, be32, be16}
 use Rattle.endian.proofs.load64.Goals as goal
 
 pub returns : goal.returns
-unfolding be64
-returns c = omega (arith, or_shl 64 32 32 c.half.ensures.1 (lit≤ tt) c.half-2.ensures.1)
+unfolding be64 be32 be16
+returns c = simp add_assoc (omega (arith, c.from_be_bytes.ensures))

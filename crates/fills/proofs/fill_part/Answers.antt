@@ -9,9 +9,9 @@ use Rattle.fills.proofs.fill_part.Goals as goal
 pub returns : goal.returns
 returns c =
     let l = c.args.part.now in
-    let k = c.lesser-k in
-    let a = c.lesser-a in
-    let b = c.lesser-b in
+    let k = c.min-k in
+    let a = c.min-a in
+    let b = c.min-b in
     let f = c.lay in
     let g = c.bytes in
     let n : length g.new.s ≡ length l = g.auto.s ∙ f.auto.part in

@@ -1,12 +1,8 @@
-use Prim.Native.Nat.{◌-◌, ◌≤◌}
-use mathlib.Core.Path.{◌≡◌}
+use Rattle.std.proofs.Common.{◌≡◌, ◌≤◌}
 use Rattle.choice.specs.Pick.{count}
 use Rattle.packed.specs.Packed.{unlike_at, under_at}
 use Rattle.packed_bytes.proofs.group8.Given as goal
 
 abbrev pub invariant-loop-b : goal.invariant-loop-b
 invariant-loop-b l =
-    (l.b ≤ l.n) × ((l.unlike ≤ l.b) × (l.under ≤ l.b)) × (l.unlike ≡ count (unlike_at 3 l.block l.figures) 0 l.b) × (l.under ≡ count (under_at 3 l.block l.figures) 0 l.b)
-
-abbrev pub decreases-loop-b : goal.decreases-loop-b
-decreases-loop-b l = l.n - l.b
+    ((l.unlike ≤ l.b) × (l.under ≤ l.b)) × (l.unlike ≡ count (unlike_at 3 l.block l.figures) 0 l.b) × (l.under ≡ count (under_at 3 l.block l.figures) 0 l.b)

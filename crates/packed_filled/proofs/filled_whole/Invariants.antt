@@ -1,12 +1,7 @@
-use Prim.Native.Nat.{◌-◌, ◌≤◌}
-use mathlib.Core.Path.{◌≡◌}
-use lib.ListN.{length}
+use Rattle.std.proofs.Common.{◌≡◌, ◌≤◌}
 use Rattle.choice.specs.Pick.{count}
 use Rattle.packed_filled.specs.Filled.{filled_at}
 use Rattle.packed_filled.proofs.filled_whole.Given as goal
 
-abbrev pub invariant-loop-b : goal.invariant-loop-b
-invariant-loop-b l = ((l.b ≤ length l.block) × (l.n ≤ l.b)) × (l.n ≡ count (filled_at 3 l.block) 0 l.b)
-
-abbrev pub decreases-loop-b : goal.decreases-loop-b
-decreases-loop-b l = length l.block - l.b
+abbrev pub invariant-loop-x : goal.invariant-loop-x
+invariant-loop-x l = (l.n ≤ l.x-index) × (l.n ≡ count (filled_at 3 l.block) 0 l.x-index)

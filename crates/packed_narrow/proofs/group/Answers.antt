@@ -1,17 +1,8 @@
-use mathlib.Core.Path.{sym, ◌∙◌}
+use Rattle.std.proofs.Common.{sym, ◌∙◌}
 use Rattle.packed_narrow.proofs.Blanks.{blank_counted}
 use Rattle.packed_narrow.proofs.group.Goals as goal
-
-pub filled-requires : goal.filled-requires
-filled-requires c = (c.requires.0, c.requires.1.0.0)
 
 pub returns-then-all_blank : goal.returns-then-all_blank
 returns-then-all_blank c =
     blank_counted c.args.order c.args.block.now c.args.figures.now c.filled.result (sym c.all_blank.ensures ∙ c.if-all_blank.true)
     (rw c.requires.1.0.1 c.filled.ensures)
-
-pub spread-requires : goal.spread-requires
-spread-requires c = c.requires
-
-pub returns : goal.returns
-returns c = c.spread.ensures

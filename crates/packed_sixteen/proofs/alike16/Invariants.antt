@@ -1,4 +1,3 @@
-use Prim.Native.Nat.{◌-◌, ◌≤◌}
 use mathlib.Core.Path.{◌≡◌}
 use mathlib.Core.Bool.{true}
 use Rattle.choice.specs.Pick.{count}
@@ -8,7 +7,4 @@ use Rattle.packed_sixteen.proofs.alike16.Given as goal
 
 abbrev pub invariant-loop-j : goal.invariant-loop-j
 invariant-loop-j l =
-    (l.j ≤ l.m) × (l.same ≡ true → (count (unlike_at 4 l.block (twos l.figures l.m)) 0 l.j ≡ 0) × (count (under_at 4 l.block (twos l.figures l.m)) 0 l.j ≡ 0))
-
-abbrev pub decreases-loop-j : goal.decreases-loop-j
-decreases-loop-j l = l.m - l.j
+    l.same ≡ true → (count (unlike_at 4 l.block (twos l.figures l.m)) 0 l.j ≡ 0) × (count (under_at 4 l.block (twos l.figures l.m)) 0 l.j ≡ 0)

@@ -1,4 +1,4 @@
-use Prim.Native.Nat.{◌-◌, ◌≤◌}
+use Prim.Native.Nat.{◌≤◌}
 use mathlib.Core.Path.{◌≡◌}
 use Rattle.choice.specs.Pick.{count}
 use Rattle.packed.specs.Packed.{unlike_at, under_at}
@@ -7,7 +7,4 @@ use Rattle.packed_sixteen.proofs.each16.Given as goal
 
 abbrev pub invariant-loop-j : goal.invariant-loop-j
 invariant-loop-j l =
-    (l.j ≤ l.m) × ((l.unlike ≤ l.j) × (l.under ≤ l.j)) × (l.unlike ≡ count (unlike_at 4 l.block (twos l.figures l.m)) 0 l.j) × (l.under ≡ count (under_at 4 l.block (twos l.figures l.m)) 0 l.j)
-
-abbrev pub decreases-loop-j : goal.decreases-loop-j
-decreases-loop-j l = l.m - l.j
+    ((l.unlike ≤ l.j) × (l.under ≤ l.j)) × (l.unlike ≡ count (unlike_at 4 l.block (twos l.figures l.m)) 0 l.j) × (l.under ≡ count (under_at 4 l.block (twos l.figures l.m)) 0 l.j)

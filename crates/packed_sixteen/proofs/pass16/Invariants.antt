@@ -1,4 +1,4 @@
-use Prim.Native.Nat.{ℕ, ◌-◌, ◌≤◌}
+use Prim.Native.Nat.{ℕ, ◌≤◌}
 use mathlib.Core.Path.{◌≡◌}
 use mathlib.Core.Bool.{Bool, not, ◌&&◌}
 use mathlib.Core.List.{List}
@@ -15,7 +15,4 @@ zero_at B F j = eqb (loaded B j) 0 && not (eqb (loaded F j) 0)
 
 abbrev pub invariant-loop-j : goal.invariant-loop-j
 invariant-loop-j l =
-    (l.j ≤ l.m) × ((l.unlike ≤ l.j) × (l.zeros ≤ l.j)) × (l.unlike ≡ count (unlike_at 4 l.block (twos l.figures l.m)) 0 l.j) × (l.zeros ≡ count (zero_at l.block l.figures) 0 l.j) × Among l.figures l.seen l.j
-
-abbrev pub decreases-loop-j : goal.decreases-loop-j
-decreases-loop-j l = l.m - l.j
+    ((l.unlike ≤ l.j) × (l.zeros ≤ l.j)) × (l.unlike ≡ count (unlike_at 4 l.block (twos l.figures l.m)) 0 l.j) × (l.zeros ≡ count (zero_at l.block l.figures) 0 l.j) × Among l.figures l.seen l.j

@@ -1,5 +1,5 @@
+use Rattle.std.specs.Prelude.{Err, Ok}
 use mathlib.Core.Path.{◌≡◌, sym, ◌∙◌}
-use Rattle.qcow2_spec.specs.declared.Judged.TheVariants.{Refused, Accepted}
 use Rattle.qcow2_spec.specs.Header.{some_lent}
 use Rattle.qcow2_spec.specs.Opened.{opened}
 use Rattle.qcow2.proofs.Refusals.{place-refused}
@@ -12,27 +12,27 @@ part_in-requires c =
     let a = c.args in
     let s = a.image.now in
     let b = a.backing.now in
-    let g = c.in-Accepted.g in
-    let e : opened (some_lent b) s ≡ Accepted g = sym c.in-Accepted.ensures in
+    let g = c.in-Ok.g in
+    let e : opened (some_lent b) s ≡ Ok g = sym c.in-Ok.ensures in
     active b s g e
 
-pub returns-in-Refused : goal.returns-in-Refused
+pub returns-in-Err : goal.returns-in-Err
 unfolding some_lent
-returns-in-Refused c =
+returns-in-Err c =
     let a = c.args in
     let s = a.image.now in
     let b = a.backing.now in
-    let k = c.in-Refused.field-0 in
-    let e : opened (some_lent b) s ≡ Refused k = sym c.in-Refused.ensures in
+    let k = c.in-Err.field-0 in
+    let e : opened (some_lent b) s ≡ Err k = sym c.in-Err.ensures in
     sym (place-refused b s k e a.x)
 
-pub returns-in-Accepted : goal.returns-in-Accepted
+pub returns-in-Ok : goal.returns-in-Ok
 unfolding some_lent
-returns-in-Accepted c =
+returns-in-Ok c =
     let a = c.args in
     let s = a.image.now in
     let b = a.backing.now in
-    let g = c.in-Accepted.g in
-    let e : opened (some_lent b) s ≡ Accepted g = sym c.in-Accepted.ensures in
+    let g = c.in-Ok.g in
+    let e : opened (some_lent b) s ≡ Ok g = sym c.in-Ok.ensures in
     let r = c.part_in.ensures in
     r ∙ place-taken b s g e a.x

@@ -1,9 +1,13 @@
-use mathlib.Core.Path.{◌≡◌, sym, ◌∙◌}
+use Rattle.std.specs.Prelude.{Ok, Err}
+use Rattle.std.proofs.lemmas.Grind.{common_steps}
+use native.Mathlib.Omega.{arith}
+use mathlib.Core.Path.{◌≡◌, sym, ap, ◌∙◌}
 use lib.ListN.{length}
-use Rattle.qcow2_spec.specs.declared.Judged.TheVariants.{Refused, Accepted}
+use Rattle.qcow2_spec.specs.Causes.{answer}
+use Rattle.qcow2_spec.specs.Guest.{read_number}
 use Rattle.qcow2_spec.specs.Header.{some_lent}
 use Rattle.qcow2_spec.specs.Opened.{opened}
-use Rattle.qcow2.proofs.Refusals.{number-refused, into_refused}
+use Rattle.qcow2.proofs.Refusals.{read-refused, into_refused}
 use Rattle.qcow2.proofs.Taken.{active, number-taken, into_taken}
 use Rattle.qcow2.proofs.read.Goals as goal
 
@@ -13,27 +17,27 @@ read_into-requires c =
     let a = c.args in
     let s = a.image.now in
     let b = a.backing.now in
-    let g = c.in-Accepted.g in
-    let e : opened (some_lent b) s ≡ Accepted g = sym c.in-Accepted.ensures in
-    (active b s g e).0
+    let e : opened (some_lent b) s ≡ Ok c.in_ok-g.g = sym c.in_ok-g.ensures in
+    (active b s c.in_ok-g.g e).0
 
-pub returns-in-Refused : goal.returns-in-Refused
+pub returns-in_err-g : goal.returns-in_err-g
 unfolding some_lent
-returns-in-Refused c =
+returns-in_err-g c =
     let a = c.args in
     let s = a.image.now in
     let b = a.backing.now in
-    let k = c.in-Refused.k in
-    let e : opened (some_lent b) s ≡ Refused k = sym c.in-Refused.ensures in
-    (sym (number-refused b s k e 0 a.x (length a.out.now)), sym (into_refused b s k e 0 a.x a.out.now))
+    let k = c.in_err-g.field-0.0 in
+    let e : opened (some_lent b) s ≡ Err k = sym c.in_err-g.ensures in
+    let h : Err k ≡ answer (read_number b s 0 a.x (length a.out.now)) = read-refused b s k e 0 a.x (length a.out.now) in
+    (grind (arith, common_steps), sym (into_refused b s k e 0 a.x a.out.now))
 
-pub returns-in-Accepted : goal.returns-in-Accepted
+pub returns : goal.returns
 unfolding some_lent
-returns-in-Accepted c =
+returns c =
     let a = c.args in
     let s = a.image.now in
     let b = a.backing.now in
-    let g = c.in-Accepted.g in
-    let e : opened (some_lent b) s ≡ Accepted g = sym c.in-Accepted.ensures in
+    let g = c.in_ok-g.g in
+    let e : opened (some_lent b) s ≡ Ok g = sym c.in_ok-g.ensures in
     let r = rw (active b s g e).1 at c.read_into.ensures in
-    (r.0 ∙ number-taken b s g e 0 a.x (length a.out.now), r.1 ∙ into_taken b s g e 0 a.x a.out.now)
+    (r.0 ∙ ap answer (number-taken b s g e 0 a.x (length a.out.now)), r.1 ∙ into_taken b s g e 0 a.x a.out.now)

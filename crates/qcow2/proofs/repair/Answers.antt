@@ -1,6 +1,10 @@
-use mathlib.Core.Path.{◌≡◌, sym, ◌∙◌}
+use Rattle.std.specs.Prelude.{Result, Ok, Err}
+use Rattle.std.proofs.lemmas.Grind.{common_steps}
+use native.Mathlib.Omega.{arith}
+use mathlib.Core.Path.{◌≡◌, sym, ap, ◌∙◌}
+use Prim.Native.Nat.{ℕ}
+use Rattle.units.specs.declared.Ended.{Ended}
 use lib.ListN.{length}
-use Rattle.qcow2_spec.specs.declared.Judged.TheVariants.{Refused, Accepted}
 use Rattle.qcow2_spec.specs.Header.{some_lent}
 use Rattle.qcow2_spec.specs.Opened.{opened}
 use Rattle.qcow2.proofs.Refusals.{repair-refused, scratch-refused}
@@ -13,27 +17,27 @@ repair-requires c =
     let a = c.args in
     let s = a.image.now in
     let b = a.backing.now in
-    let g = c.in-Accepted.g in
-    let e : opened (some_lent b) s ≡ Accepted g = sym c.in-Accepted.ensures in
-    active b s g e
+    let e : opened (some_lent b) s ≡ Ok c.in_ok-g.g = sym c.in_ok-g.ensures in
+    active b s c.in_ok-g.g e
 
-pub returns-in-Refused : goal.returns-in-Refused
+pub returns-in_err-g : goal.returns-in_err-g
 unfolding some_lent
-returns-in-Refused c =
+returns-in_err-g c =
     let a = c.args in
     let s = a.image.now in
     let b = a.backing.now in
-    let k = c.in-Refused.k in
-    let e : opened (some_lent b) s ≡ Refused k = sym c.in-Refused.ensures in
-    (repair-refused b s k e (length a.scratch.now) a.allowance, sym (scratch-refused b s k e a.scratch.now))
+    let k = c.in_err-g.field-0.0 in
+    let e : opened (some_lent b) s ≡ Err k = sym c.in_err-g.ensures in
+    let r : ◌≡◌ {A = Result Ended ℕ} c.from_residual.result (Err k) = grind (arith, common_steps) in
+    (repair-refused b s k e (length a.scratch.now) a.allowance _ r, sym (scratch-refused b s k e a.scratch.now))
 
-pub returns-in-Accepted : goal.returns-in-Accepted
+pub returns : goal.returns
 unfolding some_lent
-returns-in-Accepted c =
+returns c =
     let a = c.args in
     let s = a.image.now in
     let b = a.backing.now in
-    let g = c.in-Accepted.g in
-    let e : opened (some_lent b) s ≡ Accepted g = sym c.in-Accepted.ensures in
+    let g = c.in_ok-g.g in
+    let e : opened (some_lent b) s ≡ Ok g = sym c.in_ok-g.ensures in
     let r = c.repair.ensures in
     (rw (← repair-taken b s g e (length a.scratch.now)) r.0, r.1 ∙ scratch-taken b s g e a.scratch.now)

@@ -1,5 +1,8 @@
-use mathlib.Core.Path.{◌≡◌, sym, ◌∙◌}
-use Rattle.qcow2_spec.specs.declared.Judged.TheVariants.{Refused, Accepted}
+use Rattle.std.specs.Prelude.{Ok, Err}
+use Rattle.std.proofs.lemmas.Grind.{common_steps}
+use native.Mathlib.Omega.{arith}
+use mathlib.Core.Path.{◌≡◌, sym, ap, ◌∙◌}
+use Rattle.qcow2_spec.specs.Guest.{translate}
 use Rattle.qcow2_spec.specs.Header.{some_lent}
 use Rattle.qcow2_spec.specs.Opened.{opened}
 use Rattle.qcow2.proofs.Refusals.{translate-refused}
@@ -12,27 +15,26 @@ translated-requires c =
     let a = c.args in
     let s = a.image.now in
     let b = a.backing.now in
-    let g = c.in-Accepted.g in
-    let e : opened (some_lent b) s ≡ Accepted g = sym c.in-Accepted.ensures in
-    active b s g e
+    let e : opened (some_lent b) s ≡ Ok c.in_ok-geometry.geometry = sym c.in_ok-geometry.ensures in
+    active b s c.in_ok-geometry.geometry e
 
-pub returns-in-Refused : goal.returns-in-Refused
+pub returns-in_err-geometry : goal.returns-in_err-geometry
 unfolding some_lent
-returns-in-Refused c =
+returns-in_err-geometry c =
     let a = c.args in
     let s = a.image.now in
     let b = a.backing.now in
-    let k = c.in-Refused.k in
-    let e : opened (some_lent b) s ≡ Refused k = sym c.in-Refused.ensures in
-    sym (translate-refused b s k e a.x)
+    let k = c.in_err-geometry.field-0.0 in
+    let e : opened (some_lent b) s ≡ Err k = sym c.in_err-geometry.ensures in
+    let h : Err k ≡ translate b s a.x = sym (translate-refused b s k e a.x) in
+    grind (arith, common_steps)
 
-pub returns-in-Accepted : goal.returns-in-Accepted
+pub returns : goal.returns
 unfolding some_lent
-returns-in-Accepted c =
+returns c =
     let a = c.args in
     let s = a.image.now in
     let b = a.backing.now in
-    let g = c.in-Accepted.g in
-    let e : opened (some_lent b) s ≡ Accepted g = sym c.in-Accepted.ensures in
-    let r = c.translated.ensures in
-    r ∙ translate-taken b s g e a.x
+    let g = c.in_ok-geometry.geometry in
+    let e : opened (some_lent b) s ≡ Ok g = sym c.in_ok-geometry.ensures in
+    c.translated.ensures ∙ translate-taken b s g e a.x

@@ -1,5 +1,9 @@
-use mathlib.Core.Path.{◌≡◌, sym}
-use Rattle.qcow2_spec.specs.declared.Judged.TheVariants.{Refused, Accepted}
+use Rattle.std.specs.Prelude.{Result, Ok, Err}
+use Rattle.std.proofs.lemmas.Grind.{common_steps}
+use native.Mathlib.Omega.{arith}
+use mathlib.Core.Path.{◌≡◌, sym, ap, ◌∙◌}
+use Prim.Native.Nat.{ℕ}
+use Rattle.units.specs.declared.Ended.{Ended}
 use Rattle.qcow2_spec.specs.Header.{some_lent}
 use Rattle.qcow2_spec.specs.Opened.{opened}
 use Rattle.qcow2.proofs.Refusals.{write-refused}
@@ -12,27 +16,26 @@ write-requires c =
     let a = c.args in
     let s = a.image.now in
     let b = a.backing.now in
-    let g = c.in-Accepted.g in
-    let e : opened (some_lent b) s ≡ Accepted g = sym c.in-Accepted.ensures in
-    active b s g e
+    let e : opened (some_lent b) s ≡ Ok c.in_ok-g.g = sym c.in_ok-g.ensures in
+    active b s c.in_ok-g.g e
 
-pub returns-in-Refused : goal.returns-in-Refused
+pub returns-in_err-g : goal.returns-in_err-g
 unfolding some_lent
-returns-in-Refused c =
+returns-in_err-g c =
     let a = c.args in
     let s = a.image.now in
     let b = a.backing.now in
-    let k = c.in-Refused.k in
-    let e : opened (some_lent b) s ≡ Refused k = sym c.in-Refused.ensures in
-    write-refused b s k e a.x a.src.now a.allowance
+    let k = c.in_err-g.field-0.0 in
+    let e : opened (some_lent b) s ≡ Err k = sym c.in_err-g.ensures in
+    let r : ◌≡◌ {A = Result Ended ℕ} c.from_residual.result (Err k) = grind (arith, common_steps) in
+    write-refused b s k e a.x a.src.now a.allowance _ r
 
-pub returns-in-Accepted : goal.returns-in-Accepted
+pub returns : goal.returns
 unfolding some_lent
-returns-in-Accepted c =
+returns c =
     let a = c.args in
     let s = a.image.now in
     let b = a.backing.now in
-    let g = c.in-Accepted.g in
-    let e : opened (some_lent b) s ≡ Accepted g = sym c.in-Accepted.ensures in
-    let r = c.write.ensures in
-    rw (← write-taken b s g e a.x a.src.now) r
+    let g = c.in_ok-g.g in
+    let e : opened (some_lent b) s ≡ Ok g = sym c.in_ok-g.ensures in
+    rw (← write-taken b s g e a.x a.src.now) c.write.ensures

@@ -1,6 +1,6 @@
 use native.Mathlib.Nat.{zero-add}
 use native.Mathlib.Omega.{arith}
-use Prim.Native.Nat.{suc, ◌+◌, ◌-◌, ◌<◌}
+use Prim.Native.Nat.{suc, ◌+◌, ◌<◌}
 use mathlib.Core.Path.{◌≡◌, ◌∙◌}
 use lib.ListN.{length}
 use Rattle.qcow2_spec.specs.Header.{snapshots}
@@ -34,9 +34,6 @@ overflow_add-n c =
 
 pub next_place-at-requires : goal.next_place-at-requires
 next_place-at-requires c = ((c.requires.0.0, more (goal.at.next_place-at-requires c).In-loop-j), c.loop-j.invariant.0.1)
-
-pub loop-j-smaller : goal.loop-j-smaller
-loop-j-smaller c = omega (arith, more (goal.at.loop-j-smaller c).In-loop-j)
 
 pub loop-j-preserved : goal.loop-j-preserved
 loop-j-preserved c =

@@ -5,7 +5,7 @@ use Rattle.qcow2_spec.specs.Header.{roots, root_size}
 use Rattle.qcow2_spec.proofs.Facts.{facts, root-count, root-few}
 use Rattle.qcow2_ahead.proofs.Sums.{ahead-sum}
 use Rattle.qcow2_ahead.proofs.count_shots.Goals as goal
-use Rattle.qcow2_ahead.proofs.count_shots.Goals.{After-rest-own, Start}
+use Rattle.qcow2_ahead.proofs.count_shots.Goals.{After-saturating_sub-own, Start}
 
 pub place_of-p-requires : goal.place_of-p-requires
 place_of-p-requires c = (c.requires.0, omega (arith, c.requires.1))
@@ -27,14 +27,14 @@ there : (c : Start) → suc c.args.k < roots c.args.image.now
 there c = omega (arith, c.requires.1, root-count _ (facts _ c.requires.0.accepted))
 
 -- what it has from i on
-own : (c : After-rest-own) → c.rest-own.result ≡ root_size c.args.image.now (suc c.args.k) - c.args.i
-own c = c.rest-own.ensures ∙ ap (λ (n : ℕ). n - c.args.i) c.size_at.ensures
+own : (c : After-saturating_sub-own) → c.saturating_sub-own.result ≡ root_size c.args.image.now (suc c.args.k) - c.args.i
+own c = c.saturating_sub-own.ensures ∙ ap (λ (n : ℕ). n - c.args.i) c.size_at.ensures
 
 pub overflow_add-result : goal.overflow_add-result
-overflow_add-result c = omega (arith, own (goal.at.overflow_add-result c).After-rest-own, root-few _ (facts _ c.requires.0.accepted) _ (there (goal.at.overflow_add-result c).Start), c.count_from.ensures.1)
+overflow_add-result c = omega (arith, own (goal.at.overflow_add-result c).After-saturating_sub-own, root-few _ (facts _ c.requires.0.accepted) _ (there (goal.at.overflow_add-result c).Start), c.count_from.ensures.1)
 
 pub returns : goal.returns
 returns c =
     let a = c.args in
     let e : a.k + 1 ≡ suc a.k = omega arith in
-    omega (arith, own (goal.at.returns c).After-rest-own, rw e at c.count_from.ensures.0, ahead-sum a.image.now (suc a.k) a.i (there (goal.at.returns c).Start))
+    omega (arith, own (goal.at.returns c).After-saturating_sub-own, rw e at c.count_from.ensures.0, ahead-sum a.image.now (suc a.k) a.i (there (goal.at.returns c).Start))

@@ -6,7 +6,4 @@ use Rattle.qcow2_bad.proofs.Tables.{tables_from}
 use Rattle.qcow2_bad.proofs.first_bad.Given as goal
 
 abbrev pub invariant-loop-t : goal.invariant-loop-t
-invariant-loop-t l = (l.t ≤ l.count) × (tables_from l.image l.t ≡ tables_from l.image 0) × (l.t < roots l.image → Spot l.image l.t l.i l.j)
-
-abbrev pub decreases-loop-t : goal.decreases-loop-t
-decreases-loop-t l = l.count - l.t
+invariant-loop-t l = (tables_from l.image l.t ≡ tables_from l.image 0) × (l.t < roots l.image → Spot l.image l.t l.i l.j)

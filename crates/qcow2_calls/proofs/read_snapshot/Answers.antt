@@ -1,7 +1,8 @@
 use native.Mathlib.Omega.{arith}
 use Prim.Native.Nat.{suc, ◌≤◌}
-use mathlib.Core.Path.{◌≡◌, sym}
+use mathlib.Core.Path.{◌≡◌, sym, ap}
 use lib.ListN.{length}
+use Rattle.qcow2_spec.specs.Causes.{answer}
 use Rattle.qcow2_calls.proofs.Shots.{shot_none, shot_kept}
 use Rattle.qcow2_calls.proofs.read_snapshot.Goals as goal
 
@@ -11,7 +12,7 @@ returns-then-g-snapshot c =
     let s = a.image.now in
     let o = a.out.now in
     let h : a.g.snapshots ≤ a.snapshot = omega (arith, c.if-g-snapshot.true) in
-    (sym (shot_none a.g s c.requires a.snapshot a.x h (length o)), sym (shot_kept a.g s c.requires a.snapshot a.x h a.backing.now o))
+    rw c.into.ensures (sym (ap answer (shot_none a.g s c.requires a.snapshot a.x h (length o))), sym (shot_kept a.g s c.requires a.snapshot a.x h a.backing.now o))
 
 pub snapshot_root-root-requires : goal.snapshot_root-root-requires
 snapshot_root-root-requires c =

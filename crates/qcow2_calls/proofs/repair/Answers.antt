@@ -10,7 +10,7 @@ returns-then-g-scratch c =
     let a = c.args in
     let s = a.image.now in
     let t = a.scratch.now in
-    (rw (repair-short a.g s c.requires.0 (length t) c.if-g-scratch.true) (refusal 15 a.allowance s _ refl), scratch-short a.g s c.requires.0 t c.if-g-scratch.true)
+    (rw (c.into.ensures, repair-short a.g s c.requires.0 (length t) c.if-g-scratch.true) (refusal 15 a.allowance s _ refl), scratch-short a.g s c.requires.0 t c.if-g-scratch.true)
 
 pub check-v-requires : goal.check-v-requires
 check-v-requires c = (c.requires, omega (arith, c.if-g-scratch.false))

@@ -3,8 +3,8 @@ use mathlib.Core.Path.{◌≡◌}
 use Rattle.qcow2_counts.specs.Blocks.{per_of}
 use Rattle.qcow2_counts.proofs.run_of.Goals as goal
 
-pub overflow_sub-per : goal.overflow_sub-per
-overflow_sub-per c =
+pub overflow_sub-left : goal.overflow_sub-left
+overflow_sub-left c =
     let e : c.per_block-per.result ≡ per_of c.args.g = c.per_block-per.ensures in
     omega (arith, e, c.index_of.ensures.1)
 
@@ -12,4 +12,4 @@ pub returns : goal.returns
 returns c =
     let e : c.per_block-per.result ≡ per_of c.args.g = c.per_block-per.ensures in
     let i = c.index_of.ensures in
-    ((omega (arith, e, i.0, i.1, c.lesser.ensures), omega (arith, e, i.0, i.1, c.lesser.ensures)), omega (arith, e, i.0, i.1, c.lesser.ensures))
+    ((omega (arith, e, i.0, i.1, c.min.ensures), omega (arith, e, i.0, i.1, c.min.ensures)), omega (arith, e, i.0, i.1, c.min.ensures))

@@ -1,7 +1,5 @@
-use borrow.Author.Rules.{rules}
-use native.Mathlib.Nat.{sub-zero}
-use Prim.Native.Nat.{◌-◌, ◌*◌, ◌^◌, ◌≤◌}
-use mathlib.Core.Path.{refl, sym, ◌∙◌}
+use Prim.Native.Nat.{◌*◌, ◌^◌, ◌≤◌}
+use mathlib.Core.Path.{sym, ◌∙◌}
 use lib.ListN.{drop}
 use Rattle.window.specs.Window.{board}
 use Rattle.window.proofs.Steps.{visit_all_in_turn, visit_all_in_end}
@@ -10,15 +8,6 @@ use Rattle.qcow2_spec.specs.References.{named}
 use Rattle.endian.proofs.Entries.{be64-drop, take-entries}
 use Rattle.qcow2_fixed.proofs.visit_blocks.Goals as goal
 
-pub loop-i-init : goal.loop-i-init
-loop-i-init c = (search rules, refl, rw sub-zero)
-
-pub block_at-at-requires : goal.block_at-at-requires
-block_at-at-requires c = (c.requires.0, c.loop-i-test.true)
-
-pub visit_place-least-requires : goal.visit_place-least-requires
-visit_place-least-requires c = (c.requires.0.high, c.requires.1)
-
 pub loop-i-preserved : goal.loop-i-preserved
 unfolding block_at
 loop-i-preserved c =
@@ -26,7 +15,7 @@ loop-i-preserved c =
     let a = c.args in
     let s = a.image.now in
     let k = visit_all_in_turn a.kind a.b (named (2 ^ a.g.bits)) a.g.blocks t.i (drop (table_at s) s) (board t.target t.least) c.loop-i-test.true in
-    (search rules, search rules, rw (c.visit_place-least.ensures, c.block_at-at.ensures.0, ← be64-drop s (table_at s) (8 * t.i)) (sym k ∙ t.invariant.2))
+    rw (c.visit_place-least.ensures, c.block_at-at.ensures.0, ← be64-drop s (table_at s) (8 * t.i)) (sym k ∙ t.invariant)
 
 pub returns : goal.returns
 unfolding table
@@ -37,4 +26,4 @@ returns c =
     let s = a.image.now in
     let k : blocks s ≤ _ = rw o.is-blocks at o.blocks_fit in
     rw (take-entries _ _ (drop (table_at s) s) k, ← o.is-blocks, ← o.is-cluster)
-    (sym (visit_all_in_end a.kind a.b (named (2 ^ a.g.bits)) a.g.blocks t.i (drop (table_at s) s) (board t.target t.least) c.loop-i-test.false) ∙ t.invariant.2)
+    (sym (visit_all_in_end a.kind a.b (named (2 ^ a.g.bits)) a.g.blocks t.i (drop (table_at s) s) (board t.target t.least) c.loop-i-test.false) ∙ t.invariant)

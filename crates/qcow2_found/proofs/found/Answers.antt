@@ -1,5 +1,6 @@
 use native.Mathlib.Omega.{arith}
-use mathlib.Core.Path.{sym, ◌∙◌}
+use Rattle.std.specs.Prelude.{Err}
+use mathlib.Core.Path.{sym, ap, ◌∙◌}
 use Rattle.qcow2_found.proofs.Marked.{found_plain, found-empty, found-marked, found-refused}
 use Rattle.qcow2_found.proofs.found.Goals as goal
 
@@ -22,4 +23,4 @@ returns-then-is_marked c =
 
 pub returns : goal.returns
 returns c =
-    rw c.refusal.ensures (sym (found-refused _ _ _ _ _ (sym c.is_plain.ensures ∙ c.if-is_plain.false) c.if-e-eq0.false (sym c.is_marked.ensures ∙ c.if-is_marked.false)))
+    ap Err (c.into.ensures ∙ c.refusal.ensures) ∙ sym (found-refused _ _ _ _ _ (sym c.is_plain.ensures ∙ c.if-is_plain.false) c.if-e-eq0.false (sym c.is_marked.ensures ∙ c.if-is_marked.false))

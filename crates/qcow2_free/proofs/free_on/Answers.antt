@@ -10,7 +10,7 @@ use Rattle.qcow2_counts.proofs.Sizes.{sizes}
 use Rattle.qcow2_counts.proofs.Blocks.{at_block, block_bits, some-per, next_block}
 use Rattle.qcow2_free.proofs.Counts.{run-free, left_hit, left_missed, index_eighth}
 use Rattle.qcow2_free.proofs.free_on.Goals as goal
-use Rattle.qcow2_free.proofs.free_on.Goals.{After-free_in-f, After-index_of-j, After-lesser-end}
+use Rattle.qcow2_free.proofs.free_on.Goals.{After-free_in-f, After-index_of-j, After-min-end}
 
 -- block b's first cluster is the first of those that are left, and the search goes on at its index j
 pub per_block-per-requires : goal.per_block-per-requires
@@ -45,7 +45,7 @@ loop-j-init c =
     (((omega arith, omega (arith, f, h)), (omega (arith, f, h), (rw c.per_block-per.ensures c.index_of-j.ensures.1, e))), rw i refl)
 
 -- block b, and the counts of it that are left
-block_here : (c : After-lesser-end) → (c.loop-j.b < c.args.g.blocks) × (c.args.g.clusters - c.loop-j.left ≡ c.loop-j.b * c.per_block-per.result)
+block_here : (c : After-min-end) → (c.loop-j.b < c.args.g.blocks) × (c.args.g.clusters - c.loop-j.left ≡ c.loop-j.b * c.per_block-per.result)
 block_here c =
     let t = c.loop-j in
     at_block c.requires.0 c.per_block-per.result c.per_block-per.ensures t.b (c.args.g.clusters - t.left) t.invariant.0.0.1 (omega (arith, t.invariant.0.0.0, c.loop-j-test.true))
@@ -54,31 +54,31 @@ pub free_in-f-requires : goal.free_in-f-requires
 free_in-f-requires c =
     let t = c.loop-j in
     let l = c.loop-j-test.true in
-    ((c.requires.0, (block_here (goal.at.free_in-f-requires c).After-lesser-end).0), ((omega (arith, c.lesser-end.ensures, t.invariant.0.1.1.0, l), t.invariant.0.1.1.1 l), block_bits c.requires.0 c.per_block-per.result c.per_block-per.ensures c.lesser-end.result (omega (arith, c.lesser-end.ensures))))
+    ((c.requires.0, (block_here (goal.at.free_in-f-requires c).After-min-end).0), ((omega (arith, c.min-end.ensures, t.invariant.0.1.1.0, l), t.invariant.0.1.1.1 l), block_bits c.requires.0 c.per_block-per.result c.per_block-per.ensures c.min-end.result (omega (arith, c.min-end.ensures))))
 
 -- the clusters that were searched
 searched : (c : After-free_in-f) → c.args.g.clusters - c.loop-j.left ≡ c.loop-j.b * c.per_block-per.result
-    → first (free_at c.args.image.now) (c.args.g.clusters - c.loop-j.left + c.loop-j.j) (c.lesser-end.result - c.loop-j.j) + c.loop-j.j ≡ c.args.g.clusters - c.loop-j.left + c.loop-j.j + c.free_in-f.result
+    → first (free_at c.args.image.now) (c.args.g.clusters - c.loop-j.left + c.loop-j.j) (c.min-end.result - c.loop-j.j) + c.loop-j.j ≡ c.args.g.clusters - c.loop-j.left + c.loop-j.j + c.free_in-f.result
 searched c h =
     let t = c.loop-j in
     let H : ℕ = c.per_block-per.result in
     let k = sizes c.args.g c.args.image.now c.requires.0 in
-    let e = c.lesser-end.ensures in
-    run-free c.args.image.now t.b H t.j (c.lesser-end.result - t.j) (c.args.g.clusters - t.left + t.j) c.free_in-f.result (k.per ∙ sym c.per_block-per.ensures) (omega (arith, e, t.invariant.0.1.1.0, c.free_in-f.ensures.1)) (ap (λ (x : ℕ). x + t.j) h) c.free_in-f.ensures.0
+    let e = c.min-end.ensures in
+    run-free c.args.image.now t.b H t.j (c.min-end.result - t.j) (c.args.g.clusters - t.left + t.j) c.free_in-f.result (k.per ∙ sym c.per_block-per.ensures) (omega (arith, e, t.invariant.0.1.1.0, c.free_in-f.ensures.1)) (ap (λ (x : ℕ). x + t.j) h) c.free_in-f.ensures.0
 
 pub returns-then-f-end : goal.returns-then-f-end
 returns-then-f-end c =
     let t = c.loop-j in
     let f = c.free_in-f in
-    let e = c.lesser-end.ensures in
-    left_hit (free_at c.args.image.now) c.args.g.clusters t.left t.j c.lesser-end.result f.result t.invariant.0.0.0 (omega (arith, f.ensures.1)) (omega (arith, e)) (searched (goal.at.returns-then-f-end c).After-free_in-f (block_here (goal.at.returns-then-f-end c).After-lesser-end).1) (omega (arith, c.if-f-end.true, f.ensures.1))
+    let e = c.min-end.ensures in
+    left_hit (free_at c.args.image.now) c.args.g.clusters t.left t.j c.min-end.result f.result t.invariant.0.0.0 (omega (arith, f.ensures.1)) (omega (arith, e)) (searched (goal.at.returns-then-f-end c).After-free_in-f (block_here (goal.at.returns-then-f-end c).After-min-end).1) (omega (arith, c.if-f-end.true, f.ensures.1))
     ∙ sym t.invariant.1
 
 pub overflow_add-b : goal.overflow_add-b
-overflow_add-b c = let o = c.requires.0 in omega (arith, (block_here (goal.at.overflow_add-b c).After-lesser-end).0, o.blocks-read, o.short)
+overflow_add-b c = let o = c.requires.0 in omega (arith, (block_here (goal.at.overflow_add-b c).After-min-end).0, o.blocks-read, o.short)
 
 pub loop-j-smaller : goal.loop-j-smaller
-loop-j-smaller c = omega (arith, c.lesser-end.ensures, some-per c.requires.0 c.per_block-per.result c.per_block-per.ensures, c.loop-j-test.true)
+loop-j-smaller c = omega (arith, c.min-end.ensures, some-per c.requires.0 c.per_block-per.result c.per_block-per.ensures, c.loop-j-test.true)
 
 pub loop-j-preserved : goal.loop-j-preserved
 loop-j-preserved c =
@@ -86,12 +86,12 @@ loop-j-preserved c =
     let H : ℕ = c.per_block-per.result in
     let N : ℕ = c.args.g.clusters in
     let f = c.free_in-f in
-    let end : ℕ = c.lesser-end.result in
-    let e : end ≡ min H t.left = c.lesser-end.ensures in
+    let end : ℕ = c.min-end.result in
+    let e : end ≡ min H t.left = c.min-end.ensures in
     let l = t.invariant.0.0.0 in
     let d : N - (N - t.left) ≡ t.left = omega arith in
     let n = next_block t.b H N (N - t.left) end t.invariant.0.0.1 (omega (arith, l, c.loop-j-test.true)) (rw d e) in
-    let m = left_missed (free_at c.args.image.now) N t.left t.j end f.result l (omega (arith, f.ensures.1)) (omega (arith, e)) (searched (goal.at.loop-j-preserved c).After-free_in-f (block_here (goal.at.loop-j-preserved c).After-lesser-end).1) (omega (arith, c.if-f-end.false)) in
+    let m = left_missed (free_at c.args.image.now) N t.left t.j end f.result l (omega (arith, f.ensures.1)) (omega (arith, e)) (searched (goal.at.loop-j-preserved c).After-free_in-f (block_here (goal.at.loop-j-preserved c).After-min-end).1) (omega (arith, c.if-f-end.false)) in
     (((omega arith, omega (arith, n, l, e)), (omega arith, (some-per c.requires.0 H c.per_block-per.ensures, λ h. refl))), t.invariant.1 ∙ m)
 
 pub returns : goal.returns

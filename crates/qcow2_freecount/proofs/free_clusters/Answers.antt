@@ -24,25 +24,25 @@ here c =
 pub free_in-found-requires : goal.free_in-found-requires
 free_in-found-requires c =
     let o = c.requires in
-    (o, ((here (goal.at.free_in-found-requires c).In-loop-k).0, omega (arith, c.lesser-m.ensures, per-is o c.per_block-per.result c.per_block-per.ensures)))
+    (o, ((here (goal.at.free_in-found-requires c).In-loop-k).0, omega (arith, c.min-m.ensures, per-is o c.per_block-per.result c.per_block-per.ensures)))
 
 pub overflow_add-b : goal.overflow_add-b
 overflow_add-b c = omega (arith, (here (goal.at.overflow_add-b c).In-loop-k).0, c.requires.blocks-read)
 
 pub loop-k-smaller : goal.loop-k-smaller
 loop-k-smaller c =
-    omega (arith, c.lesser-m.ensures, some-per c.requires c.per_block-per.result c.per_block-per.ensures)
+    omega (arith, c.min-m.ensures, some-per c.requires c.per_block-per.result c.per_block-per.ensures)
 
 pub loop-k-preserved : goal.loop-k-preserved
 loop-k-preserved c =
     let a = c.args in
     let s = a.image.now in
     let k = c.loop-k.k in
-    let m = c.lesser-m.result in
+    let m = c.min-m.result in
     let e : c.free_in-found.result ≡ count (free_at s) k m = rw ((here (goal.at.loop-k-preserved c).In-loop-k).1, per-is c.requires c.per_block-per.result c.per_block-per.ensures) c.free_in-found.ensures.0 in
-    let f = count_turns (free_at s) k m a.g.clusters (omega (arith, c.lesser-m.ensures)) in (
-      omega (arith, c.lesser-m.ensures),
-      next_block c.loop-k.b _ _ k m c.loop-k.invariant.1 c.loop-k-test.true c.lesser-m.ensures,
+    let f = count_turns (free_at s) k m a.g.clusters (omega (arith, c.min-m.ensures)) in (
+      omega (arith, c.min-m.ensures),
+      next_block c.loop-k.b _ _ k m c.loop-k.invariant.1 c.loop-k-test.true c.min-m.ensures,
       omega (arith, c.free_in-found.ensures.1),
       omega (arith, e, f, c.loop-k.invariant.3),
     )

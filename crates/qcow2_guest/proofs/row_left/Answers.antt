@@ -20,4 +20,4 @@ overflow_sub-room c = room (c.power.result - c.rest.result) c.power-2.result c.r
 pub returns : goal.returns
 unfolding row_left
 returns c =
-    rw (← c.quotient.ensures.0, ← c.rest.ensures.0, ← c.rest-2.ensures.0, ← c.power-2.ensures.0, ← c.power.ensures.0) c.lesser.ensures
+    rw (← c.quotient.ensures.0, ← c.rest.ensures.0, ← c.rest-2.ensures.0, ← c.power-2.ensures.0, ← c.power.ensures.0) c.min.ensures

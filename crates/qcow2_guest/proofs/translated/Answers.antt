@@ -1,3 +1,5 @@
+use Rattle.std.specs.Prelude.{Err}
+use mathlib.Core.Path.{ap}
 use native.Mathlib.Omega.{arith}
 use borrow.Author.Tests.{le-leb, lt-leb}
 use Rattle.qcow2_spec.specs.Header.{disk_size}
@@ -9,7 +11,7 @@ pub returns-then-g-x : goal.returns-then-g-x
 unfolding translated
 returns-then-g-x c =
     let s = c.args.image.now in
-    rw (le-leb (disk_size s) c.args.x (omega (arith, active_size c.args.g s c.requires)))
+    rw (le-leb (disk_size s) c.args.x (omega (arith, active_size c.args.g s c.requires))) (ap Err c.into.ensures)
 
 pub locate-requires : goal.locate-requires
 locate-requires c =

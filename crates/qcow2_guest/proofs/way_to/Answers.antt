@@ -1,5 +1,6 @@
+use Rattle.std.specs.Prelude.{Err}
 use native.Mathlib.Omega.{arith}
-use mathlib.Core.Path.{◌≡◌, sym, ◌∙◌}
+use mathlib.Core.Path.{◌≡◌, sym, ◌∙◌, ap}
 use Rattle.qcow2_spec.specs.Entries.{place}
 use Rattle.qcow2_guest.proofs.Steps.{table_in, way-bad, way-none, way-some}
 use Rattle.qcow2_guest.proofs.way_to.Goals as goal
@@ -25,4 +26,4 @@ returns-then-good_l1 c =
 
 pub returns : goal.returns
 returns c =
-    way-bad c.args.g c.args.image.now c.requires.0 c.args.guest _ c.l1_entry-e.ensures (sym c.good_l1.ensures ∙ c.if-good_l1.false)
+    ap Err c.into.ensures ∙ way-bad c.args.g c.args.image.now c.requires.0 c.args.guest _ c.l1_entry-e.ensures (sym c.good_l1.ensures ∙ c.if-good_l1.false)

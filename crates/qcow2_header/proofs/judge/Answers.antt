@@ -6,7 +6,7 @@ use Rattle.qcow2_header.proofs.judge.Goals as goal
 
 pub returns-then-too_short : goal.returns-then-too_short
 unfolding from1
-returns-then-too_short c = rw (chain, ← c.too_short.ensures, c.if-too_short.true)
+returns-then-too_short c = rw (chain, ← c.too_short.ensures, c.if-too_short.true) cc
 
 pub returns : goal.returns
 unfolding from1

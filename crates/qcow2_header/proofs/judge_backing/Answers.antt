@@ -1,11 +1,9 @@
-use mathlib.Core.Path.{sym}
-use Rattle.choice.proofs.Tests.{if_yes}
 use Rattle.qcow2_header.specs.Chain.{from19}
 use Rattle.qcow2_header.proofs.judge_backing.Goals as goal
 
 pub returns-then-missing : goal.returns-then-missing
 unfolding from19
-returns-then-missing c = sym (if_yes _ _ _ c.if-missing.true)
+returns-then-missing c = rw c.if-missing.true cc
 
 pub returns : goal.returns
 unfolding from19

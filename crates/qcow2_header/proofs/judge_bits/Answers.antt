@@ -9,7 +9,7 @@ use Rattle.qcow2_header.proofs.judge_bits.Goals as goal
 
 pub returns-then-wrong_bits : goal.returns-then-wrong_bits
 unfolding from4
-returns-then-wrong_bits c = rw (← c.load32.ensures, ← c.wrong_bits.ensures, c.if-wrong_bits.true)
+returns-then-wrong_bits c = rw (← c.load32.ensures, ← c.wrong_bits.ensures, c.if-wrong_bits.true) cc
 
 pub judge_length-requires : goal.judge_length-requires
 judge_length-requires c =

@@ -4,7 +4,7 @@ use Rattle.qcow2_header.proofs.judge_disk.Goals as goal
 
 pub returns-then-oversize : goal.returns-then-oversize
 unfolding from8
-returns-then-oversize c = rw (← oversize-is _ _ c.requires.is, ← c.oversize.ensures, c.if-oversize.true)
+returns-then-oversize c = rw (← oversize-is _ _ c.requires.is, ← c.oversize.ensures, c.if-oversize.true) cc
 
 pub returns : goal.returns
 unfolding from8

@@ -7,7 +7,7 @@ use Rattle.qcow2_header.proofs.judge_extras.Goals as goal
 
 pub returns-then-has_extras : goal.returns-then-has_extras
 unfolding from6
-returns-then-has_extras c = let e : unsupported c.args.image.now ≡ true = cc in rw e
+returns-then-has_extras c = let e : unsupported c.args.image.now ≡ true = cc in rw e cc
 
 pub returns : goal.returns
 unfolding from6

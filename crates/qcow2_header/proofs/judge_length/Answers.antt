@@ -14,7 +14,7 @@ use Rattle.qcow2_header.proofs.judge_length.Goals as goal
 
 pub returns-then-odd_length : goal.returns-then-odd_length
 unfolding from5
-returns-then-odd_length c = let e : odd_length c.args.image.now ≡ true = cc in rw e
+returns-then-odd_length c = let e : odd_length c.args.image.now ≡ true = cc in rw e cc
 
 pub judge_extras-requires : goal.judge_extras-requires
 unfolding odd_length

@@ -4,7 +4,7 @@ use Rattle.qcow2_header.proofs.judge_sectors.Goals as goal
 
 pub returns-then-part_sector : goal.returns-then-part_sector
 unfolding from18
-returns-then-part_sector c = rw (← sectors-is _ _ c.requires.is, ← c.part_sector.ensures, c.if-part_sector.true)
+returns-then-part_sector c = rw (← sectors-is _ _ c.requires.is, ← c.part_sector.ensures, c.if-part_sector.true) cc
 
 pub returns : goal.returns
 unfolding from18

@@ -9,4 +9,4 @@ returns-then-is_version c =
 
 pub returns : goal.returns
 unfolding from3 version
-returns c = rw (← c.load32.ensures, ← c.is_version.ensures, c.if-is_version.false)
+returns c = rw (← c.load32.ensures, ← c.is_version.ensures, c.if-is_version.false) cc

@@ -1,9 +1,6 @@
-use Prim.Native.Nat.{◌-◌, ◌^◌, ◌≤◌}
+use Prim.Native.Nat.{◌^◌}
 use Rattle.qcow2_marks.specs.Marks.{Rights}
 use Rattle.qcow2_marks.proofs.each_right.Given as goal
 
 abbrev pub invariant-loop-j : goal.invariant-loop-j
-invariant-loop-j l = ((l.i ≤ l.j) × (l.j ≤ l.end)) × Rights (2 ^ l.bits) l.scratch l.table l.i l.j
-
-abbrev pub decreases-loop-j : goal.decreases-loop-j
-decreases-loop-j l = l.end - l.j
+invariant-loop-j l = Rights (2 ^ l.bits) l.scratch l.table l.i l.j

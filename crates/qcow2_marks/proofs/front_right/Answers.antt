@@ -1,27 +1,28 @@
-use borrow.Author.Rules.{rules}
 use native.Mathlib.Omega.{arith}
-use Prim.Native.Nat.{◌-◌, ◌^◌}
+use Prim.Native.Nat.{◌+◌, ◌*◌, ◌/◌, ◌^◌}
+use mathlib.Core.Path.{◌≡◌}
+use lib.ListN.{length}
 use Rattle.qcow2_marks.proofs.Rights.{rights_none, rights_then}
 use Rattle.qcow2_marks.proofs.front_right.Goals as goal
 
-pub loop-j-init : goal.loop-j-init
-loop-j-init c =
-    let a = c.args in
-    (search rules, rights_none (2 ^ a.bits) a.scratch.now a.table.now 0)
+pub loop-d-init : goal.loop-d-init
+loop-d-init c = let a = c.args in rights_none (2 ^ a.bits) a.scratch.now a.table.now 0
 
 pub group_right-k-requires : goal.group_right-k-requires
-group_right-k-requires c =
-    (c.requires, omega (arith, c.loop-j-test.true))
+group_right-k-requires c = (c.requires, omega arith)
 
 pub returns-then-k-j : goal.returns-then-k-j
 returns-then-k-j c =
     let a = c.args in
-    (omega (arith, c.loop-j-test.true, c.if-k-j.true), rights_then (2 ^ a.bits) a.scratch.now a.table.now 0 c.loop-j.j c.group_right-k.result c.loop-j.invariant.1 c.group_right-k.ensures.1)
+    (omega arith, rights_then (2 ^ a.bits) a.scratch.now a.table.now 0 (64 * c.loop-d.d) c.group_right-k.result c.loop-d.invariant c.group_right-k.ensures.1)
 
-pub loop-j-preserved : goal.loop-j-preserved
-loop-j-preserved c =
+pub loop-d-preserved : goal.loop-d-preserved
+loop-d-preserved c =
     let a = c.args in
-    (omega (arith, c.loop-j-test.true, c.group_right-k.ensures.0.1), rights_then (2 ^ a.bits) a.scratch.now a.table.now 0 c.loop-j.j c.group_right-k.result c.loop-j.invariant.1 c.group_right-k.ensures.1)
+    let e : c.group_right-k.result ≡ 64 * (c.loop-d.d + 1) = omega arith in
+    rw e at (rights_then (2 ^ a.bits) a.scratch.now a.table.now 0 (64 * c.loop-d.d) c.group_right-k.result c.loop-d.invariant c.group_right-k.ensures.1)
 
 pub returns : goal.returns
-returns c = (omega (arith, c.loop-j.invariant.0), c.loop-j.invariant.1)
+returns c =
+    let e : c.loop-d.d ≡ length c.args.table.now / 512 = omega arith in
+    (omega arith, rw e at c.loop-d.invariant)

@@ -1,6 +1,5 @@
-use borrow.Author.Rules.{rules}
 use native.Mathlib.Omega.{arith}
-use Prim.Native.Nat.{ℕ, ◌+◌, ◌-◌}
+use Prim.Native.Nat.{ℕ, ◌+◌}
 use mathlib.Core.Path.{◌≡◌, refl}
 use mathlib.Core.Bool.{Bool, true, false}
 use mathlib.Core.List.{List}
@@ -13,7 +12,7 @@ use Rattle.qcow2_marks.specs.Marks.{unharmed, UnharmedTo}
 use Rattle.qcow2_marks.proofs.rows_right.Goals as goal
 
 pub loop-i-init : goal.loop-i-init
-loop-i-init c = (search rules, λ k l. absurd (omega arith))
+loop-i-init c = λ k l. absurd (omega arith)
 
 -- one entry more
 more : (s : List ℕ) (w : Seek) (t i : ℕ) → UnharmedTo s w t i → unharmed s w (row_at s t i) ≡ true → UnharmedTo s w t (i + 1)
@@ -31,10 +30,12 @@ pub loop-i-preserved : goal.loop-i-preserved
 loop-i-preserved c =
     let a = c.args in
     let s = a.image.now in
-    (search rules, more s (wrong_marks s (twos a.scratch.now 0 a.g.clusters)) a.g.root c.loop-i.i c.loop-i.invariant.1 (c.row_right.ensures c.if-row_right.true))
+    more s (wrong_marks s (twos a.scratch.now 0 a.g.clusters)) a.g.root c.loop-i.i c.loop-i.invariant (c.row_right.ensures c.if-not-row_right.false)
 
-pub returns-else-row_right : goal.returns-else-row_right
-returns-else-row_right c = c.loop-i.invariant
+pub returns-then-not-row_right : goal.returns-then-not-row_right
+returns-then-not-row_right c = (omega arith, c.loop-i.invariant)
 
 pub returns : goal.returns
-returns c = c.loop-i.invariant
+returns c =
+    let e : c.loop-i.i ≡ c.args.g.l1size = omega arith in
+    (omega arith, rw e at c.loop-i.invariant)

@@ -1,4 +1,4 @@
-use Prim.Native.Nat.{ℕ, ◌+◌, ◌-◌, ◌*◌, ◌≤◌, ◌<◌}
+use Prim.Native.Nat.{ℕ, ◌+◌, ◌*◌, ◌≤◌, ◌<◌}
 use mathlib.Core.Path.{◌≡◌}
 use lib.ListN.{length, get_or}
 use Rattle.choice.specs.Pick.{count}
@@ -8,10 +8,7 @@ use Rattle.qcow2_noted.proofs.note.Given as goal
 
 abbrev pub invariant-loop-k : goal.invariant-loop-k
 invariant-loop-k l =
-    ((l.k ≤ l.len) × (l.missing ≤ l.k))
+    (l.missing ≤ l.k)
     × ((length l.marks ≡ length l.initial.marks)
     × (((j : ℕ) → j < l.k → get_or l.marks j 0 ≡ mark_of (be64 l.image (l.at + 8 * j)))
     × (l.missing ≡ count (unmade l.image l.at) 0 l.k)))
-
-abbrev pub decreases-loop-k : goal.decreases-loop-k
-decreases-loop-k l = l.len - l.k

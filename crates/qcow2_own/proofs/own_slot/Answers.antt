@@ -8,11 +8,7 @@ pub returns-then-is_common : goal.returns-then-is_common
 unfolding own_slot
 returns-then-is_common c =
     let t : common c.in-Slot.e ≡ true = sym c.is_common.ensures ∙ c.if-is_common.true in
-    rw (c.in-Slot.is, t)
-
-pub returns-in-Bad : goal.returns-in-Bad
-unfolding own_slot
-returns-in-Bad c = rw c.in-Bad.is
+    rw (c.into.ensures, c.in-Slot.is, t)
 
 pub returns-in-NoTable : goal.returns-in-NoTable
 unfolding own_slot

@@ -1,4 +1,3 @@
-use Prim.Native.Nat.{◌-◌}
 use mathlib.Core.Path.{◌≡◌}
 use Rattle.qcow2_batches.specs.Batch.{clash}
 use Rattle.qcow2_phases.specs.Ends.{in_rows}
@@ -7,6 +6,3 @@ use Rattle.qcow2_phases.proofs.clashing.Given as goal
 
 abbrev pub invariant-loop-i : goal.invariant-loop-i
 invariant-loop-i l = clash (in_rows l.p l.ys) (in_rows l.q l.zs) ≡ clash (in_rows l.p l.ys) (rows_from l.q l.zs l.n l.i)
-
-abbrev pub decreases-loop-i : goal.decreases-loop-i
-decreases-loop-i l = l.n - l.i

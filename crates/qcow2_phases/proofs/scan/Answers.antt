@@ -1,5 +1,4 @@
 -- `qcow2_phases::scan` meets its contract. Assumes nothing.
-use Prim.Native.Nat.{◌-◌}
 use native.Mathlib.Omega.{arith}
 use mathlib.Core.Path.{sym, ap, ◌∙◌}
 use Rattle.qcow2_batches.specs.Batch.{meets}
@@ -11,12 +10,12 @@ pub loop-i-init : goal.loop-i-init
 loop-i-init c = let a = c.args in ap (λ ys. meets ys a.at a.len) (sym (from_all a.p a.rows.now _))
 
 pub returns-then-hit : goal.returns-then-hit
-returns-then-hit c = let a = c.args in scan_hit a.p a.rows.now _ _ c.loop-i-test.true (omega arith) a.at a.len _ _ c.loop-i.invariant c.hit.ensures c.if-hit.true
+returns-then-hit c = let a = c.args in scan_hit a.p a.rows.now _ _ (omega arith) (omega arith) a.at a.len _ _ c.loop-i.invariant c.hit.ensures c.if-hit.true
 
 pub loop-i-preserved : goal.loop-i-preserved
-loop-i-preserved c = let a = c.args in scan_miss a.p a.rows.now _ _ c.loop-i-test.true (omega arith) a.at a.len _ _ c.loop-i.invariant c.hit.ensures c.if-hit.false
+loop-i-preserved c = let a = c.args in scan_miss a.p a.rows.now _ _ (omega arith) (omega arith) a.at a.len _ _ c.loop-i.invariant c.hit.ensures c.if-hit.false
 
 pub returns : goal.returns
 returns c =
     let a = c.args in
-    sym (c.loop-i.invariant ∙ ap (λ ys. meets ys a.at a.len) (from_none a.p a.rows.now _ _ c.loop-i-test.false) ∙ meets_nil a.at a.len)
+    sym (c.loop-i.invariant ∙ ap (λ ys. meets ys a.at a.len) (from_none a.p a.rows.now _ _ (omega arith)) ∙ meets_nil a.at a.len)

@@ -1,11 +1,14 @@
 -- `qcow2_planned::batch_write` meets its contract. Assumes nothing.
+use Rattle.std.specs.Prelude.{ℕ, Result, Err, Ok}
+use Rattle.std.proofs.lemmas.Grind.{common_steps}
+use native.Mathlib.Omega.{arith}
 use mathlib.Core.Path.{◌≡◌, sym, ◌∙◌}
-use Rattle.qcow2_spec.specs.declared.Judged.TheVariants.{Refused, Accepted}
 use Rattle.qcow2_spec.specs.Header.{some_lent}
 use Rattle.qcow2_spec.specs.Opened.{opened}
 use Rattle.qcow2_spec.specs.Store.{write_plan}
 use Rattle.qcow2.proofs.Refusals.{judged-refused}
 use Rattle.qcow2.proofs.Taken.{active, write-taken}
+use Rattle.qcow2_batches.specs.declared.Planned.{Planned}
 use Rattle.qcow2_phases.proofs.Plannings.{planning_refused}
 use Rattle.qcow2_planned.proofs.batch_write.Goals as goal
 
@@ -15,23 +18,24 @@ write_in-requires c =
     let a = c.args in
     let s = a.image.now in
     let b = a.backing.now in
-    let e : opened (some_lent b) s ≡ Accepted c.in-Accepted.g = sym c.judge-j.ensures ∙ c.in-Accepted.is in
-    active b s c.in-Accepted.g e
+    let e : opened (some_lent b) s ≡ Ok c.in_ok-g.g = sym c.in_ok-g.ensures in
+    active b s c.in_ok-g.g e
 
-pub returns-in-Refused : goal.returns-in-Refused
+pub returns-in_err-g : goal.returns-in_err-g
 unfolding write_plan some_lent
-returns-in-Refused c d q =
+returns-in_err-g c d q =
     let a = c.args in
     let s = a.image.now in
     let b = a.backing.now in
-    let e : opened (some_lent b) s ≡ Refused c.in-Refused.n = sym c.judge-j.ensures ∙ c.in-Refused.is in
-    planning_refused s (write_plan b s a.x d) a.k a.rows.now c.in-Refused.n (judged-refused b s c.in-Refused.n e _)
+    let e : opened (some_lent b) s ≡ Err c.in_err-g.field-0.0 = sym c.in_err-g.ensures in
+    let r : ◌≡◌ {A = Result Planned ℕ} c.from_residual.result (Err c.in_err-g.field-0.0) = grind (arith, common_steps) in
+    rw r (planning_refused s (write_plan b s a.x d) a.k a.rows.now c.in_err-g.field-0.0 (judged-refused b s c.in_err-g.field-0.0 e _))
 
-pub returns-in-Accepted : goal.returns-in-Accepted
+pub returns : goal.returns
 unfolding some_lent
-returns-in-Accepted c d q =
+returns c d q =
     let a = c.args in
     let s = a.image.now in
     let b = a.backing.now in
-    let e : opened (some_lent b) s ≡ Accepted c.in-Accepted.g = sym c.judge-j.ensures ∙ c.in-Accepted.is in
-    rw (← write-taken b s c.in-Accepted.g e a.x d) (c.write_in.ensures b d q)
+    let e : opened (some_lent b) s ≡ Ok c.in_ok-g.g = sym c.in_ok-g.ensures in
+    rw (← write-taken b s c.in_ok-g.g e a.x d) (c.write_in.ensures b d q)

@@ -1,6 +1,10 @@
 -- `qcow2_planned::discard_in` meets its contract. Assumes nothing.
+use Rattle.std.specs.Prelude.{◌≡◌, ℕ, Result, Ok, Err}
+use Rattle.qcow2_batches.specs.declared.Planned.{Planned}
+use native.Mathlib.Omega.{arith}
+use Rattle.std.proofs.lemmas.Grind.{common_steps}
 use Rattle.qcow2_own.proofs.Ready.{found-ready}
-use Rattle.qcow2_own.proofs.Requests.{discard-past, has_row-cluster, discard-some}
+use Rattle.qcow2_own.proofs.Requests.{discard-past, has_row-cluster, discard-some, discard-refused}
 use Rattle.qcow2_phases.proofs.Plannings.{planning_refused}
 use Rattle.qcow2_planned.proofs.discard_in.Goals as goal
 
@@ -11,10 +15,10 @@ pub returns-then-disk_clusters-guest : goal.returns-then-disk_clusters-guest
 returns-then-disk_clusters-guest c =
     let a = c.args in
     let s = a.image.now in
-    planning_refused s _ a.k a.rows.now 11 (discard-past a.g s c.requires a.guest (rw c.disk_clusters.ensures at c.if-disk_clusters-guest.true))
+    rw c.into.ensures (planning_refused s _ a.k a.rows.now 11 (discard-past a.g s c.requires a.guest (rw c.disk_clusters.ensures at c.if-disk_clusters-guest.true)))
 
-pub own_way-way-requires : goal.own_way-way-requires
-own_way-way-requires c =
+pub own_way-requires : goal.own_way-requires
+own_way-requires c =
     let a = c.args in
     (c.requires, has_row-cluster a.g a.image.now c.requires a.guest (rw c.disk_clusters.ensures at c.if-disk_clusters-guest.false))
 
@@ -23,10 +27,18 @@ plan_discard-requires c =
     let a = c.args in
     let s = a.image.now in
     let l = rw c.disk_clusters.ensures at c.if-disk_clusters-guest.false in
-    (c.requires.0, found-ready a.g s a.guest _ c.own_way-way.ensures c.requires (has_row-cluster a.g s c.requires a.guest l))
+    (c.requires.0, found-ready a.g s a.guest _ c.in_ok-way.ensures c.requires (has_row-cluster a.g s c.requires a.guest l))
+
+pub returns-in_err-way : goal.returns-in_err-way
+returns-in_err-way c =
+    let a = c.args in
+    let s = a.image.now in
+    let k = c.in_err-way.field-0.0 in
+    let r : ◌≡◌ {A = Result Planned ℕ} c.from_residual.result (Err k) = grind (arith, common_steps) in
+    rw r (planning_refused s _ a.k a.rows.now k (discard-refused a.g s c.requires a.guest (rw c.disk_clusters.ensures at c.if-disk_clusters-guest.false) k c.in_err-way.ensures))
 
 pub returns : goal.returns
 returns c =
     let a = c.args in
     let l = rw c.disk_clusters.ensures at c.if-disk_clusters-guest.false in
-    rw (discard-some a.g a.image.now c.requires a.guest l c.own_way-way.result c.own_way-way.ensures) c.plan_discard.ensures
+    rw (discard-some a.g a.image.now c.requires a.guest l (Ok c.in_ok-way.way) c.in_ok-way.ensures) c.plan_discard.ensures

@@ -1,3 +1,4 @@
+use Rattle.std.specs.Prelude.{Ok}
 use native.Mathlib.Omega.{arith}
 use Prim.Native.Nat.{◌+◌, ◌-◌, ◌/◌, ◌%◌, ◌^◌}
 use mathlib.Core.Path.{◌≡◌, sym, ap, ◌∙◌}
@@ -49,9 +50,9 @@ returns-then-is_plain c =
     let h = c.host_at-at.result in
     let n = length a.part.now in
     let d : h + n - h ≡ n = omega arith in
-    let e : located s a.g.root a.x ≡ Host h =
+    let e : located s a.g.root a.x ≡ Ok (Host h) =
     plain-found a.g s a.table.now c.requires.0 a.x c.requires.1.1.0 _ _ (index (goal.at.returns-then-is_plain c).After-load64-e) c.load64-e.ensures (sym c.is_plain.ensures ∙ c.if-is_plain.true)
-    ∙ ap Host (sym c.host_at-at.ensures) in
+    ∙ ap (λ h. Ok (Host h)) ((sym c.host_at-at.ensures)) in
     c.bytes.ensures ∙ rw d (copied a.g s c.requires.0 a.x a.backing.now a.part.now c.requires.1.1.1 h c.requires.1.0 e)
 
 pub returns-then-e-eq0 : goal.returns-then-e-eq0

@@ -1,4 +1,3 @@
-use Prim.Native.Nat.{◌-◌}
 use mathlib.Core.Path.{refl, sym, ◌∙◌}
 use Rattle.tally.specs.States.{twos}
 use Rattle.qcow2_remark.proofs.Marking.{marks-first, marks-none, marks-below, marks-own, marks_later}

@@ -1,4 +1,3 @@
-use Prim.Native.Nat.{◌-◌}
 use mathlib.Core.Path.{◌≡◌}
 use Rattle.tally.specs.States.{twos}
 use Rattle.qcow2_remark.proofs.Marking.{marks_from}
@@ -6,6 +5,3 @@ use Rattle.qcow2_remark.proofs.first_wrong.Given as goal
 
 abbrev pub invariant-loop-i : goal.invariant-loop-i
 invariant-loop-i l = let fs = twos l.scratch 0 l.g.clusters in marks_from l.image fs l.i ≡ marks_from l.image fs 0
-
-abbrev pub decreases-loop-i : goal.decreases-loop-i
-decreases-loop-i l = l.rows - l.i

@@ -1,5 +1,7 @@
-use Prim.Native.Nat.{◌-◌, ◌*◌, ◌^◌}
-use mathlib.Core.Path.{sym, ◌∙◌}
+use native.Mathlib.Omega.{arith}
+use Prim.Native.Nat.{◌*◌, ◌/◌, ◌^◌}
+use lib.ListN.{length}
+use mathlib.Core.Path.{◌≡◌, sym, ◌∙◌}
 use borrow.Author.Tests.{not-false, not-true}
 use Rattle.endian.specs.Big.{be64}
 use Rattle.qcow2_groups.proofs.Fores.{fore_turn, fore_stop, fore_end}
@@ -36,4 +38,5 @@ returns c =
     let a = c.args in
     let p = right_l2 a.version (2 ^ a.bits) a.n a.scratch.now in
     let l = c.loop-j in
-    sym (fore_end p _ l.j a.table.now c.loop-j-test.false) ∙ l.invariant
+    let e : l.j ≡ length a.table.now / 8 = omega arith in
+    rw e at (sym (fore_end p _ l.j a.table.now c.loop-j-test.false) ∙ l.invariant)

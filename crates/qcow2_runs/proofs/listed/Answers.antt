@@ -1,6 +1,7 @@
+use Rattle.std.specs.Prelude.{Err}
 use native.Mathlib.Omega.{arith}
 use Prim.Native.Nat.{◌+◌}
-use mathlib.Core.Path.{sym, ◌∙◌}
+use mathlib.Core.Path.{sym, ap, ◌∙◌}
 use borrow.Author.Tests.{ltb-false}
 use Rattle.qcow2_runs.proofs.Listing.{past-refused, runs-listed}
 use Rattle.qcow2_runs.proofs.listed.Goals as goal
@@ -8,7 +9,8 @@ use Rattle.qcow2_runs.proofs.listed.Goals as goal
 pub returns-then-past : goal.returns-then-past
 returns-then-past c =
     let a = c.args in
-    past-refused a.g a.image.now c.requires a.x a.len (sym c.past.ensures ∙ c.if-past.true) a.rows.now
+    let p = past-refused a.g a.image.now c.requires a.x a.len (sym c.past.ensures ∙ c.if-past.true) a.rows.now in
+    (ap Err c.into.ensures ∙ p.0, p.1)
 
 pub store_runs-requires : goal.store_runs-requires
 store_runs-requires c =

@@ -11,4 +11,4 @@ bounds-rows-at-3 c = simp (length-set, length-set) (omega arith)
 
 pub returns : goal.returns
 returns c =
-    rw (c.found_code.ensures, c.found_host.ensures) (row-stored c.args.rows.now c.args.at c.args.f c.args.r c.requires)
+    rw (c.found_code.ensures, c.found_host.ensures) (row-stored c.args.rows.now c.args.at c.args.f.now c.args.r c.requires)

@@ -37,7 +37,7 @@ loop-k-preserved c =
     let l = c.loop-k in
     let u = l.invariant in
     let n = c.next_run-done in
-    listing_next a.image.now a.g.root a.x a.len (length a.rows.now / 3) a.rows.now l.k l.done l.rows u c.loop-k-test.true (omega (arith, u.within))
+    listing_next a.image.now a.g.root a.x a.len (length a.rows.now / 3) a.rows.now l.k l.done l.rows u (omega arith) (omega (arith, u.within))
     n.result n.ensures.0 _ n.ensures.1
 
 pub shape_of-rows : goal.shape_of-rows
@@ -47,4 +47,5 @@ pub returns : goal.returns
 returns c =
     let a = c.args in
     let l = c.loop-k in
-    listing_full a.image.now a.g.root a.x a.len (length a.rows.now / 3) a.rows.now l.k l.done l.rows l.invariant c.loop-k-test.false
+    let whole = listing_full a.image.now a.g.root a.x a.len (length a.rows.now / 3) a.rows.now l.k l.done l.rows l.invariant (omega arith) in
+    (omega (arith, whole.0), whole.1)

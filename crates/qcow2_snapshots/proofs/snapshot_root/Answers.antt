@@ -8,9 +8,6 @@ use Rattle.qcow2_snapshots.proofs.Roots.{entry-inside, reach-small, root_opened}
 use Rattle.qcow2_snapshots.proofs.snapshot_root.Goals as goal
 use Rattle.qcow2_snapshots.proofs.snapshot_root.Goals.{After-place_of-at, After-load32-l1size}
 
-pub place_of-at-requires : goal.place_of-at-requires
-place_of-at-requires c = (c.requires.0, omega arith)
-
 -- the entry can be read
 inside : (c : After-place_of-at) → c.place_of-at.result + 40 ≤ length c.args.image.now
 inside c = rw c.place_of-at.ensures (entry-inside _ _ c.requires.0 _ c.requires.1)
@@ -24,9 +21,6 @@ overflow_add-at c = omega (arith, inside (goal.at.overflow_add-at c).After-place
 
 pub load32-l1size-requires : goal.load32-l1size-requires
 load32-l1size-requires c = omega (arith, inside (goal.at.load32-l1size-requires c).After-place_of-at)
-
-pub overflow_mul-result : goal.overflow_mul-result
-overflow_mul-result c = omega (arith, (reach-small _ _ c.requires.0 _ c.requires.1 _ _ (size_is (goal.at.overflow_mul-result c).After-load32-l1size) c.power-c.ensures.0).0)
 
 pub overflow_mul-result-2 : goal.overflow_mul-result-2
 overflow_mul-result-2 c = omega (arith, (reach-small _ _ c.requires.0 _ c.requires.1 _ _ (size_is (goal.at.overflow_mul-result-2 c).After-load32-l1size) c.power-c.ensures.0).1)

@@ -1,4 +1,3 @@
-use borrow.Author.Rules.{rules}
 use native.Mathlib.Omega.{arith}
 use Prim.Native.Nat.{ℕ, ◌-◌, ◌^◌}
 use mathlib.Core.Path.{◌≡◌, sym, ap, ◌∙◌}
@@ -7,27 +6,24 @@ use mathlib.Core.List.{List}
 use Rattle.choice.specs.Pick.{first}
 use Rattle.qcow2_spec.specs.Header.{cluster_size, entry_end, snapshot_at, bad_snapshot}
 use Rattle.qcow2_snapshots.specs.Entry.{bad_entry}
-use Rattle.qcow2_snapshots.proofs.Laws.{entry_read, snapshot_first, snapshot_next, snapshot_bad, search_next, search_stop, search_done}
+use Rattle.qcow2_snapshots.proofs.Laws.{entry_read, snapshot_first, snapshot_next, snapshot_bad, search_next, search_stop}
 use Rattle.qcow2_snapshots.proofs.some_bad.Goals as goal
 
 pub loop-k-init : goal.loop-k-init
 loop-k-init c =
     let a = c.args in
     let e : a.count - 0 ≡ a.count = omega arith in
-    (search rules, (c.requires.1.1 ∙ snapshot_first a.image.now, ap (first (bad_snapshot a.image.now) 0) e))
+    (c.requires.1.1 ∙ snapshot_first a.image.now, ap (first (bad_snapshot a.image.now) 0) e)
 
 -- what is told of entry k
 told : (C : ℕ) (s : List ℕ) (k p : ℕ) (r b : Bool) → cluster_size s ≡ C → p ≡ snapshot_at s k → r ≡ bad_entry C s p → r ≡ b → bad_snapshot s k ≡ b
 told C s k p r b c e f h = snapshot_bad C s k c ∙ rw e at (sym f ∙ h)
 
-pub bad_entry-requires : goal.bad_entry-requires
-bad_entry-requires c = c.requires.0
-
 pub returns-then-bad_entry : goal.returns-then-bad_entry
 returns-then-bad_entry c =
     let l = c.loop-k in
     let a = c.args in
-    search_stop (bad_snapshot a.image.now) l.k a.count _ l.invariant.1.1 (omega arith) (told (2 ^ a.bits) _ l.k l.p _ _ c.requires.1.0 l.invariant.1.0 c.bad_entry.ensures c.if-bad_entry.true)
+    search_stop (bad_snapshot a.image.now) l._k a.count _ l.invariant.1 (omega arith) (told (2 ^ a.bits) _ l._k l.p _ _ c.requires.1.0 l.invariant.0 c.bad_entry.ensures c.if-bad_entry.true)
 
 pub entry_end-p-requires : goal.entry_end-p-requires
 entry_end-p-requires c =
@@ -39,11 +35,5 @@ loop-k-preserved c =
     let l = c.loop-k in
     let a = c.args in
     let s = a.image.now in
-    let good = told (2 ^ a.bits) s l.k l.p _ _ c.requires.1.0 l.invariant.1.0 c.bad_entry.ensures c.if-bad_entry.false in
-    (search rules, (c.entry_end-p.ensures ∙ ap (λ (x : ℕ). entry_end s x) l.invariant.1.0 ∙ snapshot_next s l.k, search_next (bad_snapshot s) l.k a.count _ l.invariant.1.1 (omega arith) good))
-
-pub returns : goal.returns
-returns c =
-    let l = c.loop-k in
-    let a = c.args in
-    search_done (bad_snapshot a.image.now) l.k a.count _ l.invariant.1.1 (omega arith)
+    let good = told (2 ^ a.bits) s l._k l.p _ _ c.requires.1.0 l.invariant.0 c.bad_entry.ensures c.if-bad_entry.false in
+    (c.entry_end-p.ensures ∙ ap (λ (x : ℕ). entry_end s x) l.invariant.0 ∙ snapshot_next s l._k, search_next (bad_snapshot s) l._k a.count _ l.invariant.1 (omega arith) good)

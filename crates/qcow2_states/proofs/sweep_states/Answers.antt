@@ -1,7 +1,6 @@
-use borrow.Author.Rules.{rules}
 use native.Mathlib.Omega.{arith}
-use Prim.Native.Nat.{ℕ, ◌+◌, ◌-◌, ◌*◌, ◌%◌, ◌≤◌, ◌<◌}
-use mathlib.Core.Path.{◌≡◌, refl, sym, ap, ◌∙◌}
+use Prim.Native.Nat.{ℕ, ◌+◌, ◌*◌, ◌%◌, ◌≤◌, ◌<◌}
+use mathlib.Core.Path.{◌≡◌, sym, ap, ◌∙◌}
 use lib.ListN.{length, replicate}
 use Rattle.endian.specs.Big.{part}
 use Rattle.qcow2_spec.specs.Header.{clusters, roots}
@@ -30,19 +29,13 @@ loop-t-init c =
     let a = c.args in
     let s = a.image.now in
     let p = c.requires.1 in
-    (omega arith, refl, window_first s a.b _ (even (goal.at.loop-t-init c).After-visit_fixed) (fits (goal.at.loop-t-init c).After-visit_fixed) a.window.now _ 0 _ (p.0 ∙ sym (ap (λ (n : ℕ). replicate n 0) (kept (goal.at.loop-t-init c).After-visit_fixed))) c.visit_fixed.ensures, tables-first s)
+    (window_first s a.b _ (even (goal.at.loop-t-init c).After-visit_fixed) (fits (goal.at.loop-t-init c).After-visit_fixed) a.window.now _ 0 _ (p.0 ∙ sym (ap (λ (n : ℕ). replicate n 0) (kept (goal.at.loop-t-init c).After-visit_fixed))) c.visit_fixed.ensures, tables-first s)
 
-pub overflow_add-g : goal.overflow_add-g
-overflow_add-g c = omega (arith, shots-few c.args.g c.args.image.now c.requires.0.0)
+pub overflow_add-t-end : goal.overflow_add-t-end
+overflow_add-t-end c = omega (arith, shots-few c.args.g c.args.image.now c.requires.0.0)
 
 pub next_root-w-requires : goal.next_root-w-requires
 next_root-w-requires c = (c.requires.0, omega (arith, c.loop-t-test.true, roots_are c.args.g c.args.image.now c.requires.0.0))
-
-pub overflow_add-t : goal.overflow_add-t
-overflow_add-t c = omega (arith, c.loop-t-test.true, shots-few c.args.g c.args.image.now c.requires.0.0)
-
-pub loop-t-smaller : goal.loop-t-smaller
-loop-t-smaller c = omega (arith, c.loop-t-test.true, roots_are c.args.g c.args.image.now c.requires.0.0)
 
 pub loop-t-preserved : goal.loop-t-preserved
 loop-t-preserved c =
@@ -51,10 +44,8 @@ loop-t-preserved c =
     let s = c.args.image.now in
     let i = l.invariant in
     let h : l.t < roots s = omega (arith, c.loop-t-test.true, roots_are c.args.g s c.requires.0.0) in (
-      omega (arith, h),
-      search rules,
-      window_next s c.args.b _ (even (goal.at.loop-t-preserved c).After-visit_fixed) (fits (goal.at.loop-t-preserved c).After-visit_fixed) l.t l.window _ l.w.low _ i.2 n.ensures.1,
-      found-next s l.t l.w.found _ h n.ensures.0 ∙ i.3,
+      window_next s c.args.b _ (even (goal.at.loop-t-preserved c).After-visit_fixed) (fits (goal.at.loop-t-preserved c).After-visit_fixed) l.t l.window _ l.w.low _ i.0 n.ensures.1,
+      found-next s l.t l.w.found _ h n.ensures.0 ∙ i.1,
     )
 
 pub returns : goal.returns
@@ -63,5 +54,5 @@ returns c =
     let s = c.args.image.now in
     let i = l.invariant in
     let h : roots s ≤ l.t = omega (arith, c.loop-t-test.false, roots_are c.args.g s c.requires.0.0) in
-    let e : l.t ≡ roots s = omega (arith, h, i.0) in
-    (found_all s l.t l.w.found h ∙ i.3, window_all s c.args.b _ (even (goal.at.returns c).After-visit_fixed) (fits (goal.at.returns c).After-visit_fixed) l.t l.window e i.2 ∙ ap (part (states_of s) (2 * c.args.b)) (kept (goal.at.returns c).After-visit_fixed))
+    let e : l.t ≡ roots s = omega (arith, h, l.auto.t-end, roots_are c.args.g s c.requires.0.0) in
+    (found_all s l.t l.w.found h ∙ i.1, window_all s c.args.b _ (even (goal.at.returns c).After-visit_fixed) (fits (goal.at.returns c).After-visit_fixed) l.t l.window e i.0 ∙ ap (part (states_of s) (2 * c.args.b)) (kept (goal.at.returns c).After-visit_fixed))

@@ -1,4 +1,4 @@
-use Prim.Native.Nat.{◌-◌, ◌*◌, ◌≤◌}
+use Prim.Native.Nat.{◌*◌}
 use mathlib.Core.Path.{◌≡◌}
 use lib.ListN.{length}
 use Rattle.endian.specs.Big.{part}
@@ -11,8 +11,5 @@ use Rattle.qcow2_states.proofs.sweep_states.Given as goal
 
 abbrev pub invariant-loop-t : goal.invariant-loop-t
 invariant-loop-t l =
-    (l.t ≤ roots l.image) × (length l.window ≡ length l.initial.window) × (l.window ≡ part (walked_to l.image l.t) (2 * l.b) (length l.initial.window))
+    (l.window ≡ part (walked_to l.image l.t) (2 * l.b) (length l.initial.window))
     × (or_else l.w.found (tables_from l.image l.t) ≡ roots_verdict l.image 0 (roots l.image) Sound)
-
-abbrev pub decreases-loop-t : goal.decreases-loop-t
-decreases-loop-t l = roots l.image - l.t

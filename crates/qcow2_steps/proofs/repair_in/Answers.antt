@@ -12,7 +12,7 @@ returns-then-scratch-g c =
     let s = a.image.now in
     let t = a.scratch.now in
     let h : length t / 2 < a.g.clusters = omega (arith, c.if-scratch-g.true) in
-    (list_refused s _ a.rows.now 15 (repair-short a.g s c.requires.0 (length t) h), scratch-short a.g s c.requires.0 t h)
+    rw c.into.ensures (list_refused s _ a.rows.now 15 (repair-short a.g s c.requires.0 (length t) h), scratch-short a.g s c.requires.0 t h)
 
 pub check-v-requires : goal.check-v-requires
 check-v-requires c = (c.requires, omega (arith, c.if-scratch-g.false))

@@ -20,19 +20,19 @@ pub entries_end-k-requires : goal.entries_end-k-requires
 entries_end-k-requires c =
     let a = c.args in
     let p = c.requires.1.0 in (
-      entries_asked a.g a.image.now c.requires.0.0 a.x a.f a.i a.left c.requires.0.1 c.requires.1.0 a.t c.requires.1.1 _ _ _ _ c.power-c.ensures.0 c.quotient.ensures.0 c.rest-from.ensures.0 c.quotient-2.ensures.0,
-      omega (arith, host_small a.g a.image.now c.requires.0.0 a.x a.f (omega (arith, p.some, p.fits)) c.requires.0.1, p.fits, c.requires.0.0.far),
+      entries_asked a.g a.image.now c.requires.0.0 a.x a.f.now a.i a.left c.requires.0.1 c.requires.1.0 a.t c.requires.1.1 _ _ _ _ c.power-c.ensures.0 c.quotient.ensures.0 c.rest-from.ensures.0 c.quotient-2.ensures.0,
+      omega (arith, host_small a.g a.image.now c.requires.0.0 a.x a.f.now (omega (arith, p.some, p.fits)) c.requires.0.1, p.fits, c.requires.0.0.far),
     )
 
 pub overflow_sub-k : goal.overflow_sub-k
 overflow_sub-k c =
     let a = c.args in
-    (end_bounds a.g a.image.now c.requires.0.0 a.x a.f a.i a.left c.requires.0.1 c.requires.1.0 a.t c.requires.1.1 _ _ _ _ c.power-c.ensures.0 c.quotient.ensures.0 c.rest-from.ensures.0 c.quotient-2.ensures.0 _ c.entries_end-k.ensures).0
+    (end_bounds a.g a.image.now c.requires.0.0 a.x a.f.now a.i a.left c.requires.0.1 c.requires.1.0 a.t c.requires.1.1 _ _ _ _ c.power-c.ensures.0 c.quotient.ensures.0 c.rest-from.ensures.0 c.quotient-2.ensures.0 _ c.entries_end-k.ensures).0
 
 pub overflow_mul-k : goal.overflow_mul-k
 overflow_mul-k c =
     let a = c.args in
-    let d = end_bounds a.g a.image.now c.requires.0.0 a.x a.f a.i a.left c.requires.0.1 c.requires.1.0 a.t c.requires.1.1 _ _ _ _ c.power-c.ensures.0 c.quotient.ensures.0 c.rest-from.ensures.0 c.quotient-2.ensures.0 _ c.entries_end-k.ensures in
+    let d = end_bounds a.g a.image.now c.requires.0.0 a.x a.f.now a.i a.left c.requires.0.1 c.requires.1.0 a.t c.requires.1.1 _ _ _ _ c.power-c.ensures.0 c.quotient.ensures.0 c.rest-from.ensures.0 c.quotient-2.ensures.0 _ c.entries_end-k.ensures in
     let k : c.entries_end-k.result - c.rest-from.result ≤ 2147483648 = omega (arith, d.1, c.power-c.ensures) in
     let n : c.power-c.result ≤ 2147483648 = c.power-c.ensures.1.1 in
     omega (arith, mul-le-mul k n)
@@ -40,4 +40,4 @@ overflow_mul-k c =
 pub returns : goal.returns
 returns c =
     let a = c.args in
-    entries_go a.g a.image.now c.requires.0.0 a.x a.f a.i a.left c.requires.0.1 c.requires.1.0 a.t c.requires.1.1 _ _ _ _ c.power-c.ensures.0 c.quotient.ensures.0 c.rest-from.ensures.0 c.quotient-2.ensures.0 _ c.entries_end-k.ensures _ c.lesser.ensures
+    entries_go a.g a.image.now c.requires.0.0 a.x a.f.now a.i a.left c.requires.0.1 c.requires.1.0 a.t c.requires.1.1 _ _ _ _ c.power-c.ensures.0 c.quotient.ensures.0 c.rest-from.ensures.0 c.quotient-2.ensures.0 _ c.entries_end-k.ensures _ c.min.ensures

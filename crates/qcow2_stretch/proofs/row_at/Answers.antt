@@ -1,4 +1,5 @@
-use mathlib.Core.Path.{sym, ◌∙◌}
+use Rattle.std.specs.Prelude.{Err}
+use mathlib.Core.Path.{sym, ap, ◌∙◌}
 use Rattle.qcow2_spec.proofs.Facts.{facts, c_in}
 use Rattle.qcow2_stretch.proofs.Levels.{is-empty, is_tableat, is-bad}
 use Rattle.qcow2_stretch.proofs.row_at.Goals as goal
@@ -21,4 +22,4 @@ returns-then-is_plain c =
 
 pub returns : goal.returns
 returns c =
-    is-bad c.args.g c.args.image.now c.requires.0 c.args.guest _ c.l1_entry-e.ensures (sym c.is_plain.ensures ∙ c.if-is_plain.false) c.if-e-eq0.false
+    ap Err c.into.ensures ∙ is-bad c.args.g c.args.image.now c.requires.0 c.args.guest _ c.l1_entry-e.ensures (sym c.is_plain.ensures ∙ c.if-is_plain.false) c.if-e-eq0.false

@@ -1,4 +1,4 @@
-use Rattle.std.proofs.Common.{◌-◌, ◌^◌, sym, refl, ◌∙◌, rules}
+use Rattle.std.proofs.Common.{◌^◌, sym, ◌∙◌}
 use Rattle.window.specs.Window.{board}
 use Rattle.window.proofs.Steps.{visit_all_in_turn, visit_all_in_end}
 use Rattle.qcow2_spec.specs.References.{l2_refs}
@@ -10,10 +10,7 @@ pub loop-j-init : goal.loop-j-init
 loop-j-init c =
     let a = c.args in
     let e = group-first a.i a.table.now in
-    (search rules, refl, rw e, rw e)
-
-pub sweep_entry-t-requires : goal.sweep_entry-t-requires
-sweep_entry-t-requires c = c.requires.0
+    (rw e, rw e)
 
 pub loop-j-preserved : goal.loop-j-preserved
 loop-j-preserved c =
@@ -22,10 +19,8 @@ loop-j-preserved c =
     let a = c.args in
     let T = a.table.now in
     let k = c.loop-j-test.true in (
-      search rules,
-      search rules,
-      rw c.both-good.ensures (all_turn (passes_by a.kind a.version (2 ^ a.bits) a.n) _ c.loop-j.j T c.loop-j.good s.result.good k (rw (← l) s.ensures.0) ∙ c.loop-j.invariant.2),
-      rw (s.ensures.1, l) (sym (visit_all_in_turn a.kind a.b (l2_refs a.version (2 ^ a.bits) a.n) _ c.loop-j.j T (board c.loop-j.target c.loop-j.least) k) ∙ c.loop-j.invariant.3),
+      all_turn (passes_by a.kind a.version (2 ^ a.bits) a.n) _ c.loop-j.j T c.loop-j.good s.result.good k (rw (← l) s.ensures.0) ∙ c.loop-j.invariant.0,
+      rw (s.ensures.1, l) (sym (visit_all_in_turn a.kind a.b (l2_refs a.version (2 ^ a.bits) a.n) _ c.loop-j.j T (board c.loop-j.target c.loop-j.least) k) ∙ c.loop-j.invariant.1),
     )
 
 pub returns : goal.returns
@@ -33,6 +28,6 @@ returns c =
     let a = c.args in
     let T = a.table.now in
     let k = c.loop-j-test.false in (
-      sym (all_end (passes_by a.kind a.version (2 ^ a.bits) a.n) _ c.loop-j.j T c.loop-j.good k) ∙ c.loop-j.invariant.2,
-      sym (visit_all_in_end a.kind a.b (l2_refs a.version (2 ^ a.bits) a.n) _ c.loop-j.j T (board c.loop-j.target c.loop-j.least) k) ∙ c.loop-j.invariant.3,
+      sym (all_end (passes_by a.kind a.version (2 ^ a.bits) a.n) _ c.loop-j.j T c.loop-j.good k) ∙ c.loop-j.invariant.0,
+      sym (visit_all_in_end a.kind a.b (l2_refs a.version (2 ^ a.bits) a.n) _ c.loop-j.j T (board c.loop-j.target c.loop-j.least) k) ∙ c.loop-j.invariant.1,
     )

@@ -1,4 +1,4 @@
-use Rattle.std.proofs.Common.{◌≡◌, ◌-◌, ◌*◌, ◌^◌, ◌≤◌, ◌&&◌, length, drop}
+use Rattle.std.proofs.Common.{◌≡◌, ◌-◌, ◌*◌, ◌^◌, ◌&&◌, drop}
 use Rattle.choice.specs.Pick.{all}
 use Rattle.endian.specs.Big.{entries}
 use Rattle.tally.specs.Tally.{joined}
@@ -9,10 +9,6 @@ use Rattle.qcow2_sweep.proofs.sweep_each.Given as goal
 
 abbrev pub invariant-loop-j : goal.invariant-loop-j
 invariant-loop-j l =
-    ((l.i ≤ l.j) × (l.j ≤ l.end)) × (length l.target ≡ length l.initial.target)
-    × ((l.good && all (passes_by l.kind l.version (2 ^ l.bits) l.n) (entries (l.end - l.j) (drop (8 * l.j) l.table))) ≡ all (passes_by l.kind l.version (2 ^ l.bits) l.n) (group l.table l.i))
+    ((l.good && all (passes_by l.kind l.version (2 ^ l.bits) l.n) (entries (l.end - l.j) (drop (8 * l.j) l.table))) ≡ all (passes_by l.kind l.version (2 ^ l.bits) l.n) (group l.table l.i))
     × (visit_all_in l.kind l.b (joined (l2_refs l.version (2 ^ l.bits) l.n) (entries (l.end - l.j) (drop (8 * l.j) l.table))) (board l.target l.least)
     ≡ visit_all_in l.kind l.b (joined (l2_refs l.version (2 ^ l.bits) l.n) (group l.table l.i)) (board l.initial.target l.low))
-
-abbrev pub decreases-loop-j : goal.decreases-loop-j
-decreases-loop-j l = l.end - l.j

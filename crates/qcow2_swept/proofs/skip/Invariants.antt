@@ -1,9 +1,5 @@
-use Prim.Native.Nat.{◌-◌, ◌≤◌}
 use Rattle.qcow2_swept.specs.Rows.{Blank}
 use Rattle.qcow2_swept.proofs.skip.Given as goal
 
 abbrev pub invariant-loop-j : goal.invariant-loop-j
-invariant-loop-j l = Blank l.image l.at l.i l.j × (l.j ≤ l.to)
-
-abbrev pub decreases-loop-j : goal.decreases-loop-j
-decreases-loop-j l = l.to - l.j
+invariant-loop-j l = Blank l.image l.at l.i l.j

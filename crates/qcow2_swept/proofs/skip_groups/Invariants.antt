@@ -1,9 +1,6 @@
-use Prim.Native.Nat.{◌-◌, ◌≤◌}
+use Prim.Native.Nat.{◌+◌, ◌*◌}
 use Rattle.qcow2_swept.specs.Rows.{Blank}
 use Rattle.qcow2_swept.proofs.skip_groups.Given as goal
 
-abbrev pub invariant-loop-j : goal.invariant-loop-j
-invariant-loop-j l = Blank l.image l.at l.i l.j × (l.j ≤ l.to)
-
-abbrev pub decreases-loop-j : goal.decreases-loop-j
-decreases-loop-j l = l.to - l.j
+abbrev pub invariant-loop-d : goal.invariant-loop-d
+invariant-loop-d l = Blank l.image l.at l.i (l.i + 64 * l.d)

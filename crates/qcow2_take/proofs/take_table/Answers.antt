@@ -16,8 +16,8 @@ returns-then-w-here c =
     let s = a.image.now in
     let o = c.root_at-r in
     let e = c.sweep_rows-e.ensures in
-    within_code s a.w a.scratch.now _ _ a.g.clusters o.result.root o.result.l1size c.lesser-from.result c.rest_of-here.result 0 _ c.requires.0.1
-    o.ensures.1 o.ensures.0.is_l1size c.rest_of-here.ensures c.lesser-from.ensures c.requires.1.0 c.requires.1.1 c.if-w-here.true e.1 e.0
+    within_code s a.w a.scratch.now _ _ a.g.clusters o.result.root o.result.l1size c.min-from.result c.saturating_sub-here.result 0 _ c.requires.0.1
+    o.ensures.1 o.ensures.0.is_l1size c.saturating_sub-here.ensures c.min-from.ensures c.requires.1.0 c.requires.1.1 c.if-w-here.true e.1 e.0
 
 pub sweep_rows-e-requires-2 : goal.sweep_rows-e-requires-2
 sweep_rows-e-requires-2 c = ((c.root_at-r.ensures.0, (omega arith, omega arith)), (omega arith, omega arith))
@@ -35,5 +35,5 @@ returns c =
     let s = a.image.now in
     let o = c.root_at-r in
     let e = c.sweep_rows-e-2.ensures in
-    across_code s a.w a.scratch.now _ _ a.g.clusters o.result.root o.result.l1size c.lesser-from.result c.rest_of-here.result 0 _ c.requires.0.1
-    o.ensures.1 o.ensures.0.is_l1size c.rest_of-here.ensures c.lesser-from.ensures c.requires.1.0 c.requires.1.1 c.if-w-here.false e.1 e.0
+    across_code s a.w a.scratch.now _ _ a.g.clusters o.result.root o.result.l1size c.min-from.result c.saturating_sub-here.result 0 _ c.requires.0.1
+    o.ensures.1 o.ensures.0.is_l1size c.saturating_sub-here.ensures c.min-from.ensures c.requires.1.0 c.requires.1.1 c.if-w-here.false e.1 e.0

@@ -13,6 +13,6 @@ returns-then-len-x c =
 pub returns : goal.returns
 returns c =
     let a = c.args in
-    let m = c.lesser-m.result in
+    let m = c.min-m.result in
     let d : a.x + m - a.x ≡ m = omega arith in
-    rw (c.bytes.ensures, d) at c.zeros-2.ensures ∙ lent_some a.backing.now a.x (length a.part.now) a.part.now refl m c.lesser-m.ensures
+    rw (c.bytes.ensures, d) at c.zeros-2.ensures ∙ lent_some a.backing.now a.x (length a.part.now) a.part.now refl m c.min-m.ensures

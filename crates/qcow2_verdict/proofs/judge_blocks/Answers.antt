@@ -1,7 +1,7 @@
 use borrow.Author.Rules.{rules}
 use native.Mathlib.Omega.{arith}
 use native.Mathlib.Nat.{zero-mul}
-use Prim.Native.Nat.{◌-◌, ◌*◌, ◌<◌}
+use Prim.Native.Nat.{◌*◌, ◌<◌}
 use mathlib.Core.Path.{◌≡◌}
 use lib.ListN.{length}
 use Rattle.packed_twos.specs.Twos.{figures_in}
@@ -36,8 +36,8 @@ judge_block-d-requires c =
     let o = c.requires.0 in
     let g = c.args.g in
     let s = c.args.image.now in (
-      block_packed o p.result p.ensures t.b t.k c.lesser-m.result a.result (here (goal.at.judge_block-d-requires c).In-loop-k).1 (omega (arith, c.lesser-m.ensures)) (here (goal.at.judge_block-d-requires c).In-loop-k).0 a.ensures.0 a.ensures.1,
-      ((omega (arith, c.lesser-m.ensures, c.requires.1), omega (arith, c.requires.1, o.short, few-clusters (length s) g.clusters g.bits o.whole)), t.invariant.2),
+      block_packed o p.result p.ensures t.b t.k c.min-m.result a.result (here (goal.at.judge_block-d-requires c).In-loop-k).1 (omega (arith, c.min-m.ensures)) (here (goal.at.judge_block-d-requires c).In-loop-k).0 a.ensures.0 a.ensures.1,
+      ((omega (arith, c.min-m.ensures, c.requires.1), omega (arith, c.requires.1, o.short, few-clusters (length s) g.clusters g.bits o.whole)), t.invariant.2),
     )
 
 pub returns-then-d-n : goal.returns-then-d-n
@@ -45,7 +45,7 @@ returns-then-d-n c =
     judged-on c.judge_block-d.ensures (omega (arith, c.if-d-n.true, length-is c.args.scratch.now c.args.g.clusters c.requires.1)) c.args.g.clusters
 
 pub overflow_add-k : goal.overflow_add-k
-overflow_add-k c = omega (arith, c.lesser-m.ensures)
+overflow_add-k c = omega (arith, c.min-m.ensures)
 
 pub overflow_add-b : goal.overflow_add-b
 overflow_add-b c = omega (arith, (here (goal.at.overflow_add-b c).In-loop-k).0, c.requires.0.blocks-read)
@@ -53,11 +53,11 @@ overflow_add-b c = omega (arith, (here (goal.at.overflow_add-b c).In-loop-k).0, 
 pub loop-k-smaller : goal.loop-k-smaller
 loop-k-smaller c =
     let p = c.per_block-per in
-    omega (arith, c.lesser-m.ensures, some-per c.requires.0 p.result p.ensures)
+    omega (arith, c.min-m.ensures, some-per c.requires.0 p.result p.ensures)
 
 pub loop-k-preserved : goal.loop-k-preserved
 loop-k-preserved c =
-    let l = c.lesser-m in
+    let l = c.min-m in
     let t = c.loop-k in
     (omega (arith, l.ensures), next_block t.b _ _ t.k l.result t.invariant.1 c.loop-k-test.true l.ensures, c.judge_block-d.ensures.none (omega (arith, c.if-d-n.false, length-is c.args.scratch.now c.args.g.clusters c.requires.1)))
 

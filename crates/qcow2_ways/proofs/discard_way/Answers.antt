@@ -1,7 +1,10 @@
 use native.Mathlib.Omega.{arith}
-use mathlib.Core.Path.{sym, ◌∙◌}
+use mathlib.Core.Path.{sym, subst, ◌∙◌}
 use lib.ListN.{length}
-use Rattle.qcow2_jobs.specs.Jobs.{freed_units}
+use Rattle.std.specs.Prelude.{Ok, Option}
+use Rattle.std.proofs.lemmas.Result.{err_from_is_err_and}
+use Rattle.qcow2_jobs.specs.Jobs.{ReleaseIn, freed_units}
+use Rattle.qcow2_jobs.specs.declared.releasing.Freed.{Freed}
 use Rattle.qcow2_spec.specs.Store.{discard_way}
 use Rattle.qcow2_discard.proofs.Some.{freed-some}
 use Rattle.qcow2_rows.proofs.Laws.{puts_same}
@@ -10,8 +13,8 @@ use Rattle.qcow2_ways.proofs.Listings.{list_refused, list_none, list_units, clea
 use Rattle.qcow2_ways.proofs.Most.{freed-most}
 use Rattle.qcow2_ways.proofs.discard_way.Goals as goal
 
-pub find_release-found-requires : goal.find_release-found-requires
-find_release-found-requires c = c.requires
+pub find_release-requires : goal.find_release-requires
+find_release-requires c = c.requires
 
 pub clear_row-k-requires : goal.clear_row-k-requires
 clear_row-k-requires c = c.requires.0
@@ -19,27 +22,28 @@ clear_row-k-requires c = c.requires.0
 pub freed_rows-n-requires : goal.freed_rows-n-requires
 freed_rows-n-requires c =
     let n = length c.args.image.now in
-    let i = c.in-Store.ensures.inside in
-    (omega (arith, c.clear_row-k.ensures.0), freed-most n c.requires.0.short c.in-Store.freed i)
+    let i = subst (λ (r : Option Freed). ReleaseIn n (Ok r)) c.in-Some.is c.in_ok-find_release.ensures.inside in
+    (omega (arith, c.clear_row-k.ensures.0), freed-most n c.requires.0.short c.in-Some.freed i)
 
-pub returns-in-Refuse : goal.returns-in-Refuse
-returns-in-Refuse c =
+pub returns-in_err-find_release : goal.returns-in_err-find_release
+returns-in_err-find_release c =
     let a = c.args in
     let l = a.image.now in
-    list_refused l _ a.rows.now c.in-Refuse.k (clearing-refused l (discard_way l a.way) c.in-Refuse.k (sym c.in-Refuse.ensures.same))
+    let p = err_from_is_err_and c.from_residual.result c.from_residual.ensures.1 in
+    rw (p.1, p.2) (list_refused l _ a.rows.now _ (clearing-refused l (discard_way l (Ok a.way)) _ (sym c.in_err-find_release.ensures.same)))
 
-pub returns-in-Nothing : goal.returns-in-Nothing
-returns-in-Nothing c =
+pub returns-in-None : goal.returns-in-None
+returns-in-None c =
     let a = c.args in
     let l = a.image.now in
-    list_none l _ a.rows.now (clearing-none l (discard_way l a.way) (sym c.in-Nothing.ensures.same))
+    list_none l _ a.rows.now (clearing-none l (discard_way l (Ok a.way)) (rw c.in-None.is at (sym c.in_ok-find_release.ensures.same)))
 
-pub returns-in-Store : goal.returns-in-Store
-returns-in-Store c =
+pub returns-in-Some : goal.returns-in-Some
+returns-in-Some c =
     let a = c.args in
     let l = a.image.now in
-    let U = freed_units c.in-Store.freed in
+    let U = freed_units c.in-Some.freed in
     let k = c.clear_row-k in
     let f = c.freed_rows-n in
-    rw (clearing-some l (discard_way l a.way) U (sym c.in-Store.ensures.same) (freed-some c.in-Store.freed))
-    (list_units l U a.rows.now _ _ _ _ _ k.ensures.1 (puts_same (rows-freed c.in-Store.freed) f.ensures.1) (f.auto.rows ∙ k.auto.rows) c.listed.ensures)
+    rw (clearing-some l (discard_way l (Ok a.way)) U (rw c.in-Some.is at (sym c.in_ok-find_release.ensures.same)) (freed-some c.in-Some.freed))
+    (list_units l U a.rows.now _ _ _ _ _ k.ensures.1 (puts_same (rows-freed c.in-Some.freed) f.ensures.1) (f.auto.rows ∙ k.auto.rows) c.listed.ensures)

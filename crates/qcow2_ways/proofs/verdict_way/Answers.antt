@@ -1,5 +1,7 @@
 use native.Mathlib.Omega.{arith}
-use mathlib.Core.Path.{refl}
+use mathlib.Core.Path.{refl, ap}
+use Rattle.std.specs.Prelude.{Ok}
+use Rattle.std.proofs.lemmas.Result.{err_from_is_err_and}
 use Rattle.qcow2_spec.specs.Header.{clusters}
 use Rattle.qcow2_spec.specs.References.{figures_of}
 use Rattle.qcow2_spec.specs.Check.{repair_units, verdict_plan}
@@ -10,23 +12,24 @@ use Rattle.qcow2_ways.proofs.verdict_way.Goals as goal
 pub leaks-requires : goal.leaks-requires
 leaks-requires c =
     let a = c.args in
-    counts_leaking a.g a.image.now a.refs.now a.v _ (λ i. omega (arith, c.type_inv.image i)) c.requires.0.0 c.requires.0.1 c.requires.1 c.in-Counts.ensures refl
+    counts_leaking a.g a.image.now a.refs.now a.v _ (λ i. omega (arith, c.type_inv.image i)) c.requires.0.0 c.requires.0.1 c.requires.1 c.in_ok-find_mending.ensures (ap Ok c.in-Counts.is)
 
-pub returns-in-Refuse : goal.returns-in-Refuse
-returns-in-Refuse c =
+pub returns-in_err-find_mending : goal.returns-in_err-find_mending
+returns-in_err-find_mending c =
     let a = c.args in
     let l = a.image.now in
-    list_refused l _ a.rows.now c.in-Refuse.k (clearing-refused l (verdict_plan l a.v) c.in-Refuse.k (plan_mends l a.v _ _ c.in-Refuse.ensures refl))
+    let p = err_from_is_err_and c.from_residual.result c.from_residual.ensures.1 in
+    rw (p.1, p.2) (list_refused l _ a.rows.now _ (clearing-refused l (verdict_plan l a.v) _ (plan_mends l a.v _ _ c.requires.1 c.in_err-find_mending.ensures refl)))
 
 pub returns-in-Nothing : goal.returns-in-Nothing
 returns-in-Nothing c =
     let a = c.args in
     let l = a.image.now in
-    list_none l _ a.rows.now (clearing-none l (verdict_plan l a.v) (plan_mends l a.v _ _ c.in-Nothing.ensures refl))
+    list_none l _ a.rows.now (clearing-none l (verdict_plan l a.v) (plan_mends l a.v _ _ c.requires.1 c.in_ok-find_mending.ensures (ap Ok c.in-Nothing.is)))
 
 pub returns-in-Counts : goal.returns-in-Counts
 returns-in-Counts c =
     let a = c.args in
     let l = a.image.now in
-    let h = counts_leaking a.g l a.refs.now a.v _ (λ i. omega (arith, c.type_inv.image i)) c.requires.0.0 c.requires.0.1 c.requires.1 c.in-Counts.ensures refl in
-    rw (clearing-some l (verdict_plan l a.v) (repair_units l (figures_of l) 0 (clusters l)) (plan_mends l a.v _ _ c.in-Counts.ensures refl) h.some) c.leaks.ensures
+    let h = counts_leaking a.g l a.refs.now a.v _ (λ i. omega (arith, c.type_inv.image i)) c.requires.0.0 c.requires.0.1 c.requires.1 c.in_ok-find_mending.ensures (ap Ok c.in-Counts.is) in
+    rw (clearing-some l (verdict_plan l a.v) (repair_units l (figures_of l) 0 (clusters l)) (plan_mends l a.v _ _ c.requires.1 c.in_ok-find_mending.ensures (ap Ok c.in-Counts.is)) h.some) c.leaks.ensures

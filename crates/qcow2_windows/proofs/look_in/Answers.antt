@@ -1,5 +1,5 @@
 use native.Mathlib.Omega.{arith}
-use mathlib.Core.Path.{sym, ◌∙◌}
+use mathlib.Core.Path.{refl, sym, ◌∙◌}
 use Rattle.qcow2_spec.proofs.Facts.{facts}
 use Rattle.qcow2_windows.proofs.Looking.{bits_looks, states_looks}
 use Rattle.qcow2_windows.proofs.look_in.Goals as goal
@@ -15,7 +15,7 @@ returns-then-g-eq0 c =
     let s = a.image.now in
     let o = c.requires.0.0.0 in
     let e = c.look-w.ensures in
-    bits_looks s a.scratch.now a.g.clusters _ _ _ _ (facts s o.accepted) (sym o.is-snapshots ∙ c.if-g-eq0.true) o.is-clusters c.requires.0.1 c.both.ensures e.0 e.1
+    bits_looks s a.scratch.now a.g.clusters _ _ _ _ (facts s o.accepted) (sym o.is-snapshots ∙ c.if-g-eq0.true) o.is-clusters c.requires.0.1 refl e.0 e.1
 
 pub look-w-requires-2 : goal.look-w-requires-2
 look-w-requires-2 c = (c.requires.0.0, omega arith)

@@ -20,8 +20,8 @@ pub returns : goal.returns
 returns c =
     let a = c.args in
     let b = c.bytes_of-c.ensures.0 in
-    let m = c.lesser-m.ensures in
-    let t = c.lesser-at in
-    let k = c.lesser-k in
+    let m = c.min-m.ensures in
+    let t = c.min-at in
+    let k = c.min-k in
     let d : t.result + k.result - t.result ≡ k.result = omega arith in
-    rw d (base_part a.g a.backing.now a.guest (not-false _ c.if-not-g.false) c.lesser-m.result t.result k.result (rw b at m) (rw b at t.ensures) k.ensures)
+    rw d (base_part a.g a.backing.now a.guest (not-false _ c.if-not-g.false) c.min-m.result t.result k.result (rw b at m) (rw b at t.ensures) k.ensures)

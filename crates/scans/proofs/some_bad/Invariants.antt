@@ -1,4 +1,4 @@
-use Prim.Native.Nat.{◌-◌, ◌≤◌}
+use Prim.Native.Nat.{◌-◌}
 use mathlib.Core.Path.{◌≡◌}
 use mathlib.Core.Bool.{false, ◌||◌}
 use lib.Dec.{ltb}
@@ -8,7 +8,4 @@ use Rattle.scans.proofs.some_bad.Given as goal
 
 abbrev pub invariant-loop-k : goal.invariant-loop-k
 invariant-loop-k l =
-    (l.k ≤ l.n) × ((l.found || ltb (first (flag_at false l.scratch) l.k (l.n - l.k)) l.n) ≡ ltb (first (flag_at false l.scratch) 0 l.n) l.n)
-
-abbrev pub decreases-loop-k : goal.decreases-loop-k
-decreases-loop-k l = l.n - l.k
+    (l.found || ltb (first (flag_at false l.scratch) l.k (l.n - l.k)) l.n) ≡ ltb (first (flag_at false l.scratch) 0 l.n) l.n

@@ -1,18 +1,15 @@
-use borrow.Author.Rules.{rules}
 use native.Mathlib.Omega.{arith}
-use Prim.Native.Nat.{◌-◌}
-use mathlib.Core.Path.{refl}
 use Rattle.visits.proofs.Unpacks.{unpacking_first, unpacking_next, unpacking_last}
 use Rattle.visits.proofs.unpack.Goals as goal
 
 pub loop-k-init : goal.loop-k-init
-loop-k-init c = (search rules, refl, unpacking_first _)
+loop-k-init c = unpacking_first _
 
 pub loop-k-preserved : goal.loop-k-preserved
 loop-k-preserved c =
     let a = c.args in
-    (search rules, search rules, unpacking_next a.scratch.now c.loop-k.k c.loop-k.scratch _ (omega arith) c.loop-k.invariant.2 c.unpack_one.ensures)
+    unpacking_next a.scratch.now c.loop-k.k c.loop-k.scratch _ (omega arith) c.loop-k.invariant c.unpack_one.ensures
 
 pub returns : goal.returns
 returns c =
-    unpacking_last c.args.scratch.now c.loop-k.scratch c.loop-k.k c.requires (omega arith) c.loop-k.invariant.2
+    unpacking_last c.args.scratch.now c.loop-k.scratch c.loop-k.k c.requires (omega arith) c.loop-k.invariant

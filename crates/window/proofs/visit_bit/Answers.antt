@@ -12,7 +12,7 @@ load-requires c = record { few = omega arith; aligned = mod-one _; fits = omega 
 pub returns-then-load-eq1 : goal.returns-then-load-eq1
 returns-then-load-eq1 c =
     let a = c.args in
-    bit-again a.target.now a.low a.j a.c _ _ c.if-target-j.false c.load.ensures c.if-load-eq1.true c.lesser.ensures
+    bit-again a.target.now a.low a.j a.c _ _ c.if-target-j.false c.load.ensures c.if-load-eq1.true c.min.ensures
 
 pub store-requires : goal.store-requires
 store-requires c = record { few = omega arith; aligned = mod-one _; fits = omega arith }

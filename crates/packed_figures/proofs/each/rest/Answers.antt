@@ -29,7 +29,7 @@ overflow_mul-width c =
 
 pub load-x-requires : goal.load-x-requires
 load-x-requires c =
-    rw c.power-width.ensures.0 (lie_inside c.requires.0.0 c.loop-j.j c.loop-j-test.true)
+    rw c.power-width.ensures.0 (lie_inside c.requires.0.0 c.loop-j.j (omega arith))
 
 pub loop-j-preserved : goal.loop-j-preserved
 unfolding unlike_at under_at packed
@@ -39,12 +39,11 @@ loop-j-preserved c =
     let F = a.figures.now in
     let j = c.loop-j.j in
     let r = rw c.power-width.ensures.0 at c.load-x.ensures in
-    let e : c.one_unlike-unlike.result ≡ (if unlike_at a.order B F j then 1 else 0) = rw (← r) c.one_unlike-unlike.ensures.0 in
-    let f : c.one_under-under.result ≡ (if under_at a.order B F j then 1 else 0) = rw (← r) c.one_under-under.ensures.0 in
+    let e : c.from-unlike.result ≡ (if unlike_at a.order B F j then 1 else 0) = rw (← r, c.from-unlike.ensures, c.from-figure.ensures) (search rules) in
+    let f : c.from-under.result ≡ (if under_at a.order B F j then 1 else 0) = rw (← r, c.from-under.ensures, c.from-figure.ensures) (search rules) in
     (search rules, search rules, omega (arith, e, count_next (unlike_at a.order B F) j, c.loop-j.invariant.2), omega (arith, f, count_next (under_at a.order B F) j, c.loop-j.invariant.3))
 
 pub returns : goal.returns
 returns c =
-    let a = c.args in
-    let e : c.loop-j.j ≡ length a.figures.now = omega arith in
+    let e : c.loop-j.j ≡ length c.args.figures.now = omega arith in
     (rw e at c.loop-j.invariant.2, rw e at c.loop-j.invariant.3)

@@ -7,11 +7,11 @@ pub returns-then-kind : goal.returns-then-kind
 unfolding same_found
 returns-then-kind c =
     let a = c.args in
-    rw (ne_eqb (found_kind a.e) (found_kind a.f) (λ z. c.if-kind.true (c.kind.ensures ∙ z ∙ sym c.kind-2.ensures)))
+    rw (ne_eqb (found_kind a.e.now) (found_kind a.f.now) (λ z. c.if-kind.true (c.kind.ensures ∙ z ∙ sym c.kind-2.ensures)))
 
 pub returns : goal.returns
 unfolding same_found
 returns c =
     let a = c.args in
-    let k : found_kind a.e ≡ found_kind a.f = sym c.kind.ensures ∙ c.if-kind.false ∙ c.kind-2.ensures in
-    rw (eq-eqb (found_kind a.e) (found_kind a.f) k, c.number.ensures, c.number-2.ensures)
+    let k : found_kind a.e.now ≡ found_kind a.f.now = sym c.kind.ensures ∙ c.if-kind.false ∙ c.kind-2.ensures in
+    rw (eq-eqb (found_kind a.e.now) (found_kind a.f.now) k, c.number.ensures, c.number-2.ensures)

@@ -1,11 +1,8 @@
-use Prim.Native.Nat.{◌-◌, ◌^◌, ◌≤◌}
+use Prim.Native.Nat.{◌^◌}
 use mathlib.Core.Path.{◌≡◌}
 use Rattle.qcow2_alike.specs.Alike.{entries_end}
 use Rattle.qcow2_alike.proofs.table.same_end.Given as goal
 
 abbrev pub invariant-loop-k : goal.invariant-loop-k
 invariant-loop-k l =
-    ((l.from ≤ l.k) × (l.k ≤ l.end)) × (entries_end l.version (2 ^ l.bits) l.n l.table l.f l.from l.from l.end ≡ entries_end l.version (2 ^ l.bits) l.n l.table l.f l.from l.k l.end)
-
-abbrev pub decreases-loop-k : goal.decreases-loop-k
-decreases-loop-k l = l.end - l.k
+    entries_end l.version (2 ^ l.bits) l.n l.table l.f l.from l.from l.end ≡ entries_end l.version (2 ^ l.bits) l.n l.table l.f l.from l.k l.end

@@ -10,9 +10,9 @@ shape_of-part-then-own-k c = rw length-set c.zeros.auto.s
 pub returns-then-own-k : goal.returns-then-own-k
 returns-then-own-k c =
     let a = c.args in
-    (c.lesser-k.ensures, rw c.zeros.ensures (lay_over a.part.now _ a.own c.lesser-k.result c.requires c.if-own-k.true (omega (arith, c.lesser-k.ensures))))
+    (c.min-k.ensures, rw c.zeros.ensures (lay_over a.part.now _ a.own c.min-k.result c.requires c.if-own-k.true (omega (arith, c.min-k.ensures))))
 
 pub returns : goal.returns
 returns c =
     let a = c.args in
-    (c.lesser-k.ensures, c.zeros.ensures ∙ lay_before a.part.now _ a.own c.lesser-k.result c.requires c.if-own-k.false)
+    (c.min-k.ensures, c.zeros.ensures ∙ lay_before a.part.now _ a.own c.min-k.result c.requires c.if-own-k.false)

@@ -5,20 +5,20 @@ use Rattle.qcow2_extend.proofs.Makes.{made-next, made_done}
 use Rattle.qcow2_extend.proofs.making.make_all.Goals as goal
 
 pub loop-i-init : goal.loop-i-init
-loop-i-init c = (omega arith, (refl, refl))
+loop-i-init c = (refl, refl)
 
 pub make_block-rest-requires : goal.make_block-rest-requires
-make_block-rest-requires c = (rw c.loop-i.invariant.1.0 c.requires.0, omega (arith, c.requires.1.0, c.loop-i-test.true))
+make_block-rest-requires c = (rw c.loop-i.invariant.0 c.requires.0, omega (arith, c.requires.1.0))
 
 pub loop-i-preserved : goal.loop-i-preserved
 loop-i-preserved c =
     let a = c.args in
     let l = c.loop-i in
     let r = c.make_block-rest in
-    (omega (arith, l.invariant.0), (r.auto.image ∙ l.invariant.1.0, made-next a.p a.start a.marks.now l.i a.end l.rest l.image l.invariant.1.1 r.result r.new.image c.loop-i-test.true r.ensures.0 r.ensures.1))
+    (r.auto.image ∙ l.invariant.0, made-next a.p a.start a.marks.now l.i a.end l.rest l.image l.invariant.1 r.result r.new.image (omega arith) r.ensures.0 r.ensures.1)
 
 pub returns : goal.returns
 returns c =
     let a = c.args in
     let l = c.loop-i in
-    made_done a.p a.start a.marks.now l.i a.end l.rest l.image l.invariant.1.1 (omega arith)
+    made_done a.p a.start a.marks.now l.i a.end l.rest l.image l.invariant.1 (omega arith)

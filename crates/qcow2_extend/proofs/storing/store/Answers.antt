@@ -1,6 +1,7 @@
 use native.Mathlib.Omega.{arith}
 use native.Mathlib.Nat.{mul-le-mul}
 use Prim.Native.Nat.{◌+◌, ◌-◌, ◌≤◌}
+use Rattle.std.specs.Prelude.{Ok}
 use Rattle.units.specs.Plan.{units, Done}
 use Rattle.units.proofs.Steps.{stored}
 use Rattle.qcow2_noted.specs.Noting.{unmade}
@@ -27,7 +28,7 @@ overflow_mul-n c =
     omega (arith, mul-le-mul m n)
 
 -- how the blocks alone end, within what the clearing unit left
-blocks-done : (c : After-end_of) → Done (units (made_where c.args.p (unmade c.args.image.now c.args.p.table) c.args.start (c.args.p.blocks - c.args.start))) c.clear_field-left.result c.clear_field-left.new.image c.end_of.result c.make_all.new.image
+blocks-done : (c : After-end_of) → Done (units (made_where c.args.p (unmade c.args.image.now c.args.p.table) c.args.start (c.args.p.blocks - c.args.start))) c.clear_field-left.result c.clear_field-left.new.image (Ok c.end_of.result) c.make_all.new.image
 blocks-done c =
     let a = c.args in
     let p = c.requires in

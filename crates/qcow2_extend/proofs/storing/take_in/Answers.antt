@@ -21,13 +21,13 @@ pub skip-start-requires : goal.skip-start-requires
 skip-start-requires c = let p = c.requires in ((p.fits.entered, omega (arith, p.fits.short)), p.earlier)
 
 pub make_from-requires : goal.make_from-requires
-make_from-requires c = (ready (goal.at.make_from-requires c).After-skip-start, omega (arith, c.if-p-start-le256.true, c.small_room-few.ensures))
+make_from-requires c = (ready (goal.at.make_from-requires c).After-skip-start, omega (arith, c.room-few.ensures))
 
 pub make_from-requires-2 : goal.make_from-requires-2
 make_from-requires-2 c = (ready (goal.at.make_from-requires-2 c).After-skip-start, omega (arith, c.requires.few, c.room-marks.ensures))
 
-pub returns-then-p-start-le256 : goal.returns-then-p-start-le256
-returns-then-p-start-le256 c = rw (same (goal.at.returns-then-p-start-le256 c).After-skip-start) c.make_from.ensures
+pub returns-then-p-start-le-FEW_MARKS : goal.returns-then-p-start-le-FEW_MARKS
+returns-then-p-start-le-FEW_MARKS c = rw (same (goal.at.returns-then-p-start-le-FEW_MARKS c).After-skip-start) c.make_from.ensures
 
 pub returns : goal.returns
 returns c = rw (same (goal.at.returns c).After-skip-start) c.make_from-2.ensures

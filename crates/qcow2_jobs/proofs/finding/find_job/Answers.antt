@@ -1,5 +1,5 @@
 use Rattle.qcow2_jobs.proofs.Slots.{ready-slot, ready-none}
-use Rattle.qcow2_jobs.proofs.Writes.{write-bad, write-none, write-there}
+use Rattle.qcow2_jobs.proofs.Writes.{write-none, write-there}
 use Rattle.qcow2_jobs.proofs.finding.find_job.Goals as goal
 
 pub find_table-requires : goal.find_table-requires
@@ -12,12 +12,6 @@ find_slot-requires c =
     let a = c.args in
     let p = c.in-Slot in
     ready-slot a.g a.image.now a.way a.guest c.requires.1 p.at p.e p.is
-
-pub returns-in-Bad : goal.returns-in-Bad
-returns-in-Bad c =
-    let a = c.args in
-    let p = c.in-Bad in
-    write-bad a.image.now _ a.way a.guest p.k p.is
 
 pub returns-in-NoTable : goal.returns-in-NoTable
 returns-in-NoTable c =

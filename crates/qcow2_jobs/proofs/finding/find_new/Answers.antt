@@ -12,7 +12,7 @@ count_at-count_at-requires c = (c.requires.0, omega arith)
 pub returns-then-g-k : goal.returns-then-g-k
 returns-then-g-k c guest =
     let a = c.args in
-    rw (← c.free_from-k.ensures) (full a.g a.image.now c.requires.0 guest a.entry_at c.free_from-k.result a.e c.if-g-k.true)
+    rw (c.into.ensures, ← c.free_from-k.ensures) (full a.g a.image.now c.requires.0 guest a.entry_at c.free_from-k.result a.e c.if-g-k.true)
 
 pub overflow_mul-job : goal.overflow_mul-job
 overflow_mul-job c =

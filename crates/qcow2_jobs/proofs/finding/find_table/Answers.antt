@@ -21,7 +21,7 @@ overflow_add-t c =
 pub returns-then-g-k : goal.returns-then-g-k
 returns-then-g-k c =
     let a = c.args in
-    rw (← c.free_from-t.ensures, ← c.free_from-k.ensures) (full-table a.g a.image.now c.requires.0.0 a.guest c.free_from-t.result c.free_from-k.result c.if-g-k.true)
+    rw (c.into.ensures, ← c.free_from-t.ensures, ← c.free_from-k.ensures) (full-table a.g a.image.now c.requires.0.0 a.guest c.free_from-t.result c.free_from-k.result c.if-g-k.true)
 
 pub find_places-requires : goal.find_places-requires
 find_places-requires c =

@@ -13,7 +13,7 @@ returns-then-n-eq0 c =
     let a = c.args in
     let l = a.image.now in
     let z : count_of l a.k ≡ 0 = rw (c.count_at-count_at.ensures.0, c.requires.0.is-width) at (sym c.load-n.ensures ∙ c.if-n-eq0.true) in
-    uncounted l (length l) a.at a.value a.k z
+    rw c.into.ensures (uncounted l (length l) a.at a.value a.k z)
 
 pub returns : goal.returns
 unfolding count_of

@@ -1,5 +1,5 @@
 use Rattle.qcow2_jobs.proofs.Slots.{ready-slot}
-use Rattle.qcow2_jobs.proofs.Discards.{discard-bad, discard_as}
+use Rattle.qcow2_jobs.proofs.Discards.{discard_as}
 use Rattle.qcow2_jobs.proofs.releasing.find_release.Goals as goal
 
 pub find_none-requires : goal.find_none-requires
@@ -10,12 +10,6 @@ find_slot-requires c =
     let a = c.args in
     let p = c.in-Slot in
     ready-slot a.g a.image.now a.way a.guest c.requires.1 p.at p.e p.is
-
-pub returns-in-Bad : goal.returns-in-Bad
-returns-in-Bad c =
-    let a = c.args in
-    let p = c.in-Bad in
-    discard-bad a.image.now _ a.way p.k p.is
 
 pub returns-in-NoTable : goal.returns-in-NoTable
 returns-in-NoTable c =

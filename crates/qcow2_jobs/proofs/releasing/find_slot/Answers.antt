@@ -11,7 +11,7 @@ pub returns-then-lacks_mark : goal.returns-then-lacks_mark
 returns-then-lacks_mark c =
     let a = c.args in
     let l = a.image.now in
-    markless l (length l) a.at a.e (sym (lacks_is a.g l c.requires.opened _ c.lacks_mark.ensures) ∙ c.if-lacks_mark.true)
+    rw c.into.ensures (markless l (length l) a.at a.e (sym (lacks_is a.g l c.requires.opened _ c.lacks_mark.ensures) ∙ c.if-lacks_mark.true))
 
 pub returns-then-e-value : goal.returns-then-e-value
 returns-then-e-value c =

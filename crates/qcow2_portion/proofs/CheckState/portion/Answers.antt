@@ -1,5 +1,5 @@
+use Rattle.std.specs.Prelude.{Err, Ok}
 use mathlib.Core.Path.{◌≡◌, sym, ◌∙◌}
-use Rattle.qcow2_spec.specs.declared.Judged.TheVariants.{Refused, Accepted}
 use Rattle.qcow2_spec.specs.Header.{some_lent}
 use Rattle.qcow2_spec.specs.Opened.{opened}
 use Rattle.qcow2_spec.proofs.Open.{accepted-is}
@@ -11,20 +11,20 @@ unfolding some_lent
 portioned-requires c =
     let a = c.args in
     let b = a.backing.now in
-    let e : opened (some_lent b) a.image.now ≡ Accepted c.in-Accepted.g = sym c.judge-j.ensures ∙ c.in-Accepted.is in
-    (accepted-is (some_lent b) a.image.now c.in-Accepted.g e).1
+    let e : opened (some_lent b) a.image.now ≡ Ok c.in-Ok.g = sym c.in-Ok.ensures in
+    (accepted-is (some_lent b) a.image.now c.in-Ok.g e).1
 
-pub returns-in-Refused : goal.returns-in-Refused
+pub returns-in-Err : goal.returns-in-Err
 unfolding some_lent
-returns-in-Refused c =
+returns-in-Err c =
     let a = c.args in
-    let e : opened (some_lent a.backing.now) a.image.now ≡ Refused c.in-Refused.k = sym c.judge-j.ensures ∙ c.in-Refused.is in
-    portion-refused a.backing.now a.image.now a.self a.scratch.now a.may c.in-Refused.k e
+    let e : opened (some_lent a.backing.now) a.image.now ≡ Err c.in-Err.e = sym c.in-Err.ensures in
+    portion-refused a.backing.now a.image.now a.self a.scratch.now a.may c.in-Err.e e
 
-pub returns-in-Accepted : goal.returns-in-Accepted
+pub returns-in-Ok : goal.returns-in-Ok
 unfolding some_lent
-returns-in-Accepted c =
+returns-in-Ok c =
     let a = c.args in
-    let e : opened (some_lent a.backing.now) a.image.now ≡ Accepted c.in-Accepted.g = sym c.judge-j.ensures ∙ c.in-Accepted.is in
+    let e : opened (some_lent a.backing.now) a.image.now ≡ Ok c.in-Ok.g = sym c.in-Ok.ensures in
     let t = c.portioned.ensures in
-    portion-accepted a.backing.now a.image.now a.self a.scratch.now a.may c.in-Accepted.g e _ _ t.0 t.1
+    portion-accepted a.backing.now a.image.now a.self a.scratch.now a.may c.in-Ok.g e _ _ t.0 t.1

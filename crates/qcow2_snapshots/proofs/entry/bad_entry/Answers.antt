@@ -1,4 +1,4 @@
-use borrow.Author.Tests.{lt-ltb, le-ltb, ltb-true, ltb-false}
+use borrow.Author.Tests.{lt-ltb, le-ltb, ltb-true}
 use native.Mathlib.Omega.{arith}
 use Prim.Native.Nat.{◌^◌, ◌≤◌, ◌<◌}
 use mathlib.Core.Path.{sym, ◌∙◌}
@@ -13,9 +13,6 @@ returns-then-past c =
     let a = c.args in
     entry_past (2 ^ a.bits) a.image.now a.at (ltb-true _ _ (sym c.past.ensures ∙ c.if-past.true))
 
-pub entry_end-requires : goal.entry_end-requires
-entry_end-requires c = (ltb-false _ _ (sym c.past.ensures ∙ c.if-past.false), c.requires.0)
-
 pub returns-then-image-entry_end : goal.returns-then-image-entry_end
 unfolding bad_entry
 returns-then-image-entry_end c =
@@ -23,9 +20,6 @@ returns-then-image-entry_end c =
     let s = a.image.now in
     let h : length s < entry_end s a.at = omega (arith, c.entry_end.ensures) in
     rw (lt-ltb (length s) (entry_end s a.at) h)
-
-pub bad_root-requires : goal.bad_root-requires
-bad_root-requires c = ((ltb-false _ _ (sym c.past.ensures ∙ c.if-past.false), c.requires.0), c.requires.1)
 
 pub returns : goal.returns
 unfolding bad_entry

@@ -1,15 +1,10 @@
-use borrow.Author.Rules.{rules}
 use native.Mathlib.Omega.{arith}
-use Prim.Native.Nat.{ℕ, ◌-◌, ◌^◌}
+use Prim.Native.Nat.{ℕ, ◌^◌}
 use mathlib.Core.Path.{◌≡◌, sym, ◌∙◌}
 use mathlib.Core.Bool.{Bool, true, false}
-use Rattle.endian.proofs.Entries.{entries-whole}
 use Rattle.qcow2_spec.specs.Header.{good_block}
 use Rattle.qcow2_tables.proofs.Laws.{all-next, all_stop, all_done}
 use Rattle.qcow2_tables.proofs.entries.all_named.Goals as goal
-
-pub loop-i-init : goal.loop-i-init
-loop-i-init c = (search rules, rw entries-whole)
 
 -- what is told of entry i
 told : (p : ℕ → Bool) (e x : ℕ) (r b : Bool) → e ≡ x → r ≡ p e → r ≡ b → p x ≡ b
@@ -20,17 +15,17 @@ loop-i-preserved c =
     let l = c.loop-i in
     let a = c.args in
     let p : ℕ → Bool = good_block (2 ^ a.bits) a.n in
-    (search rules, all-next p a.count l.i a.table.now l.invariant.1 (omega arith) (told p _ _ _ true c.load64.ensures c.names_block.ensures c.if-names_block.true))
+    all-next p a.count l.i a.table.now l.invariant (omega arith) (told p _ _ _ true c.load64.ensures c.names_block.ensures c.if-not-names_block.false)
 
-pub returns-else-names_block : goal.returns-else-names_block
-returns-else-names_block c =
+pub returns-then-not-names_block : goal.returns-then-not-names_block
+returns-then-not-names_block c =
     let l = c.loop-i in
     let a = c.args in
     let p : ℕ → Bool = good_block (2 ^ a.bits) a.n in
-    all_stop p a.count l.i a.table.now l.invariant.1 (omega arith) (told p _ _ _ false c.load64.ensures c.names_block.ensures c.if-names_block.false)
+    all_stop p a.count l.i a.table.now l.invariant (omega arith) (told p _ _ _ false c.load64.ensures c.names_block.ensures c.if-not-names_block.true)
 
 pub returns : goal.returns
 returns c =
     let l = c.loop-i in
     let a = c.args in
-    all_done (good_block (2 ^ a.bits) a.n) a.count l.i a.table.now l.invariant.1 (omega arith)
+    all_done (good_block (2 ^ a.bits) a.n) a.count l.i a.table.now l.invariant (omega arith)

@@ -1,4 +1,4 @@
-use Prim.Native.Nat.{◌-◌, ◌*◌, ◌^◌, ◌≤◌}
+use Prim.Native.Nat.{◌-◌, ◌*◌, ◌^◌}
 use mathlib.Core.Path.{◌≡◌}
 use lib.ListN.{drop}
 use Rattle.choice.specs.Pick.{all}
@@ -8,7 +8,4 @@ use Rattle.qcow2_tables.proofs.entries.all_named.Given as goal
 
 abbrev pub invariant-loop-i : goal.invariant-loop-i
 invariant-loop-i l =
-    (l.i ≤ l.count) × (all (good_block (2 ^ l.bits) l.n) (entries (l.count - l.i) (drop (8 * l.i) l.table)) ≡ all (good_block (2 ^ l.bits) l.n) (entries l.count l.table))
-
-abbrev pub decreases-loop-i : goal.decreases-loop-i
-decreases-loop-i l = l.count - l.i
+    all (good_block (2 ^ l.bits) l.n) (entries (l.count - l.i) (drop (8 * l.i) l.table)) ≡ all (good_block (2 ^ l.bits) l.n) (entries l.count l.table)

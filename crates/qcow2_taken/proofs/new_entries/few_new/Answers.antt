@@ -15,13 +15,13 @@ pub loop-i-preserved : goal.loop-i-preserved
 loop-i-preserved c =
     let a = c.args in
     let l = c.loop-i in
-    run-next (new_at a.table.now a.span) l.i a.end l.invariant c.loop-i-test.true (sym c.entry_new.ensures ∙ c.if-entry_new.true)
+    run-next (new_at a.table.now a.span) l.i a.end l.invariant (omega arith) (sym c.entry_new.ensures ∙ c.if-not-entry_new.false)
 
-pub returns-else-entry_new : goal.returns-else-entry_new
-returns-else-entry_new c =
+pub returns-then-not-entry_new : goal.returns-then-not-entry_new
+returns-then-not-entry_new c =
     let a = c.args in
     let l = c.loop-i in
-    run_stop (new_at a.table.now a.span) l.i a.end l.invariant c.loop-i-test.true (sym c.entry_new.ensures ∙ c.if-entry_new.false)
+    run_stop (new_at a.table.now a.span) l.i a.end l.invariant (omega arith) (sym c.entry_new.ensures ∙ c.if-not-entry_new.true)
 
 pub returns : goal.returns
 returns c =

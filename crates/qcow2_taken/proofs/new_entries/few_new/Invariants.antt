@@ -7,6 +7,3 @@ use Rattle.qcow2_taken.proofs.new_entries.few_new.Given as goal
 
 abbrev pub invariant-loop-i : goal.invariant-loop-i
 invariant-loop-i l = all (new_at l.table l.span) (run l.i (l.end - l.i)) ≡ all (new_at l.table l.span) (run l.from (l.end - l.from))
-
-abbrev pub decreases-loop-i : goal.decreases-loop-i
-decreases-loop-i l = l.end - l.i

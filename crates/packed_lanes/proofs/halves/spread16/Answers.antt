@@ -1,8 +1,0 @@
-use native.Mathlib.Omega.{arith}
-use Rattle.widths.specs.Width.{field}
-use Rattle.packed.specs.Lanes.{lanes, parts}
-use Rattle.packed_lanes.proofs.halves.spread16.Goals as goal
-
-pub returns : goal.returns
-unfolding lanes parts field
-returns c = omega (arith, c.requires)
