@@ -78,10 +78,7 @@ fn entry_code(table: usize, active: u32, snapshot: u32) -> u32
 fn snapshot_of(table: usize) -> u64
     ensures { result ≡ table - 1 }
 {
-    if table == 0 {
-        return 0;
-    }
-    (table - 1) as u64
+    table.saturating_sub(1) as u64
 }
 
 fn verdict_code(v: Verdict) -> u32
@@ -104,15 +101,10 @@ fn verdict_first(v: Verdict) -> u64
     ensures { result ≡ verdict_first v }
 {
     match v {
-        Verdict::Sound => 0,
-        Verdict::Leaks(n) => n as u64,
-        Verdict::BadL1(_, i) => i as u64,
-        Verdict::BadL2(_, i, _) => i as u64,
-        Verdict::Shared(k) => k as u64,
-        Verdict::Short(k) => k as u64,
-        Verdict::MarkL1(i) => i as u64,
-        Verdict::MarkL2(i, _) => i as u64,
-        Verdict::Refused(_) => 0,
+        Verdict::Leaks(k) | Verdict::Shared(k) | Verdict::Short(k) => k as u64,
+        Verdict::BadL1(_, i) | Verdict::BadL2(_, i, _) => i as u64,
+        Verdict::MarkL1(i) | Verdict::MarkL2(i, _) => i as u64,
+        Verdict::Sound | Verdict::Refused(_) => 0,
     }
 }
 
@@ -120,15 +112,9 @@ fn verdict_second(v: Verdict) -> u64
     ensures { result ≡ verdict_second v }
 {
     match v {
-        Verdict::Sound => 0,
-        Verdict::Leaks(_) => 0,
-        Verdict::BadL1(_, _) => 0,
         Verdict::BadL2(_, _, j) => j as u64,
-        Verdict::Shared(_) => 0,
-        Verdict::Short(_) => 0,
-        Verdict::MarkL1(_) => 0,
         Verdict::MarkL2(_, j) => j as u64,
-        Verdict::Refused(_) => 0,
+        _ => 0,
     }
 }
 
@@ -136,15 +122,8 @@ fn verdict_third(v: Verdict) -> u64
     ensures { result ≡ verdict_third v }
 {
     match v {
-        Verdict::Sound => 0,
-        Verdict::Leaks(_) => 0,
-        Verdict::BadL1(t, _) => snapshot_of(t),
-        Verdict::BadL2(t, _, _) => snapshot_of(t),
-        Verdict::Shared(_) => 0,
-        Verdict::Short(_) => 0,
-        Verdict::MarkL1(_) => 0,
-        Verdict::MarkL2(_, _) => 0,
-        Verdict::Refused(_) => 0,
+        Verdict::BadL1(t, _) | Verdict::BadL2(t, _, _) => snapshot_of(t),
+        _ => 0,
     }
 }
 
