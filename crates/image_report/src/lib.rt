@@ -23,7 +23,7 @@ fn accepted<W: Write>(out: &mut W, image: &[u8], g: Geometry, v: Verdict) -> io:
 fn report<W: Write>(out: &mut W, image: &[u8], scratch: &mut [u8]) -> io::Result<()> {
     let v = qcow2::check(image, &image[0..0], scratch);
     match qcow2_header::judge(image, false) {
-        Err(why) => image_words::refused(out, why),
+        Err(why) => image_words::refused(out, why.number()),
         Ok(g) => accepted(out, image, g, v),
     }
 }

@@ -5,7 +5,6 @@
 ghost use Rattle.std.specs.Prelude.{◌≤◌};
 ghost use Rattle.qcow2_spec.specs.Header.{most_bits};
 
-use qcow2_spec::refusal::Refusal;
 use qcow2_spec::{Geometry, Verdict};
 use std::io::Write;
 use std::{fmt, io};
@@ -57,8 +56,8 @@ impl fmt::Display for Said {
     }
 }
 
-pub fn refused<W: Write>(out: &mut W, why: Refusal) -> io::Result<()> {
-    writeln!(out, "refused\t{}", why.number())
+pub fn refused<W: Write>(out: &mut W, k: u8) -> io::Result<()> {
+    writeln!(out, "refused\t{k}")
 }
 
 // Cluster size, clusters, disk size and L1 entries.

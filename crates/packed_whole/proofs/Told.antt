@@ -25,6 +25,10 @@ count-more p k j =
     rw (d, e, add-zero) at (count_turns p k j (k + j + 1) (omega arith))
 
 -- ---- one test for another
+pub if-not : (b : Bool) → ◌≡◌ {A = ℕ} (if not b then 1 else 0) (if b then 0 else 1)
+if-not true = refl
+if-not false = refl
+
 under-is : (x f t : ℕ) → f ≤ 1 → (x ≡ 0 → t ≡ 0) → (t ≡ 0 → x ≡ 0) → ◌≡◌ {A = ℕ} (if ltb x f then 1 else 0) ((if eqb t 0 then 1 else 0) * f)
 under-is x f t h to from = go (eqb t 0) refl
   where

@@ -14,6 +14,13 @@ mod narrow;
 pub use halves::Sums64;
 pub use narrow::{Sums16, Sums32};
 
+// 1 where a turned number of 32 bits is not the figure, whatever the figure.
+pub fn unlike32(t: u32, figure: u8) -> u32
+    ensures { (result ≡ (if eqb t (figure * 16777216) then 0 else 1)) × (result ≤ 1) }
+{
+    u32::from(t != u32::from(figure) * 16777216)
+}
+
 // How many numbers of 2 to the power order bits are not their figures, and how many are below them. As no figure is above 1, only 0 is below its
 // figure, and then by the figure; and a turned number is 0 exactly where the number is.
 pub trait Sums: Copy {

@@ -1,5 +1,5 @@
 // Numbers of 16 and 32 bits, in sums of their width, so that as many are added at a time as are compared.
-use crate::Sums;
+use crate::{Sums, unlike32};
 use packed::Compared;
 
 #[derive(Clone, Copy)]
@@ -61,10 +61,9 @@ impl Sums for Sums32 {
 
     fn with(self, block: &[u8], j: usize, figure: u8) -> Sums32 {
         let t = packed::turned32(block, 4 * j);
-        let f = u32::from(figure);
         Sums32 {
-            unlike: self.unlike + u32::from(t != f * 16777216),
-            under: self.under + u32::from(t == 0) * f,
+            unlike: self.unlike + unlike32(t, figure),
+            under: self.under + u32::from(t == 0) * u32::from(figure),
         }
     }
 

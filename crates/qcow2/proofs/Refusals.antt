@@ -24,7 +24,7 @@ module _ (backing s : List ℕ) (k : ℕ) (e : opened (some_lent backing) s ≡ 
   unfolding translate
   translate-refused x = unless-refused backing s k e Err _
 
-  number-refused : (t x len : ℕ) → read_number backing s t x len ≡ k
+  pub number-refused : (t x len : ℕ) → read_number backing s t x len ≡ k
   unfolding read_number
   number-refused t x len = unless-refused backing s k e (λ n. n) _
 

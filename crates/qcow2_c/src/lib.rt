@@ -92,7 +92,7 @@ pub extern "C" fn qcow2_backed_runs(
     ensures { ((result ≡ listed_code (list_runs backing.now image.now 0 offset len (length rows.old / 3))) × (count.new ≡ listed_rows (list_runs backing.now image.now 0 offset len (length rows.old / 3)))) × (rows.new ≡ runs_into backing.now image.now 0 offset len rows.old) }
 {
     let l = qcow2::runs(image, backing, offset, len, rows);
-    qcow2_codes::put_listed(l, count)
+    qcow2_codes::put_listed(qcow2_codes::numbered(l), count)
 }
 
 #[unsafe(no_mangle)]
@@ -107,7 +107,7 @@ pub extern "C" fn qcow2_backed_write(
     ensures { ((result ≡ outcome_code (outcome (write_plan backing.now image.old offset src.now) allowance)) × (units.new ≡ outcome_units (outcome (write_plan backing.now image.old offset src.now) allowance))) × (image.new ≡ after (write_plan backing.now image.old offset src.now) allowance image.old) }
 {
     let o = qcow2::write(image, backing, offset, src, allowance as usize);
-    qcow2_codes::put_outcome(o, units)
+    qcow2_codes::put_outcome(qcow2_codes::numbered(o), units)
 }
 
 #[unsafe(no_mangle)]
@@ -121,7 +121,7 @@ pub extern "C" fn qcow2_backed_discard(
     ensures { ((result ≡ outcome_code (outcome (discard_plan backing.now image.old cluster) allowance)) × (units.new ≡ outcome_units (outcome (discard_plan backing.now image.old cluster) allowance))) × (image.new ≡ after (discard_plan backing.now image.old cluster) allowance image.old) }
 {
     let o = qcow2::discard(image, backing, cluster, allowance as usize);
-    qcow2_codes::put_outcome(o, units)
+    qcow2_codes::put_outcome(qcow2_codes::numbered(o), units)
 }
 
 #[unsafe(no_mangle)]
@@ -135,7 +135,7 @@ pub extern "C" fn qcow2_backed_repair(
     ensures { ((result ≡ outcome_code (outcome (repair_plan backing.now image.old (length scratch.old)) allowance)) × (units.new ≡ outcome_units (outcome (repair_plan backing.now image.old (length scratch.old)) allowance))) × ((image.new ≡ after (repair_plan backing.now image.old (length scratch.old)) allowance image.old) × (scratch.new ≡ scratch_left backing.now image.old scratch.old)) }
 {
     let o = qcow2::repair(image, backing, scratch, allowance as usize);
-    qcow2_codes::put_outcome(o, units)
+    qcow2_codes::put_outcome(qcow2_codes::numbered(o), units)
 }
 
 #[unsafe(no_mangle)]
@@ -143,7 +143,7 @@ pub extern "C" fn qcow2_extend(image: &mut [u8], old: u64, allowance: u64, units
     ensures { ((result ≡ outcome_code (outcome (extend_plan image.old old) allowance)) × (units.new ≡ outcome_units (outcome (extend_plan image.old old) allowance))) × (image.new ≡ after (extend_plan image.old old) allowance image.old) }
 {
     let o = qcow2_extend::extend(image, old, allowance as usize);
-    qcow2_codes::put_outcome(o, units)
+    qcow2_codes::put_outcome(qcow2_codes::numbered(o), units)
 }
 
 #[unsafe(no_mangle)]
@@ -178,8 +178,8 @@ pub extern "C" fn qcow2_backed_check_portion(
 {
     let st = qcow2_kept::load(state);
     let p = st.portion(image, backing, scratch, may as usize);
-    qcow2_kept::keep(state, st, may as usize, &p);
-    qcow2_kept::put_answer(&p.answer, first, second, third)
+    qcow2_kept::keep(state, st, may as usize, p);
+    qcow2_kept::put_answer(p.answer, first, second, third)
 }
 
 // A stored count less the scratch's figure, with its sign: below zero the cluster is short.
@@ -249,7 +249,7 @@ pub extern "C" fn qcow2_backed_write_steps(
     ensures { (d : List ℕ) → length d ≡ len → ((result ≡ listed_code (list_steps image.now (write_plan backing.now image.now offset d) (length rows.old))) × (count.new ≡ listed_rows (list_steps image.now (write_plan backing.now image.now offset d) (length rows.old)))) × (rows.new ≡ steps_into image.now (write_plan backing.now image.now offset d) rows.old) }
 {
     let l = qcow2_steps::write_steps(image, backing, offset, len, rows);
-    qcow2_codes::put_listed(l, count)
+    qcow2_codes::put_listed(qcow2_codes::numbered(l), count)
 }
 
 #[unsafe(no_mangle)]
@@ -263,7 +263,7 @@ pub extern "C" fn qcow2_backed_discard_steps(
     ensures { ((result ≡ listed_code (list_steps image.now (discard_plan backing.now image.now cluster) (length rows.old))) × (count.new ≡ listed_rows (list_steps image.now (discard_plan backing.now image.now cluster) (length rows.old)))) × (rows.new ≡ steps_into image.now (discard_plan backing.now image.now cluster) rows.old) }
 {
     let l = qcow2_steps::discard_steps(image, backing, cluster, rows);
-    qcow2_codes::put_listed(l, count)
+    qcow2_codes::put_listed(qcow2_codes::numbered(l), count)
 }
 
 #[unsafe(no_mangle)]
@@ -277,7 +277,7 @@ pub extern "C" fn qcow2_backed_repair_steps(
     ensures { ((result ≡ listed_code (list_steps image.now (repair_plan backing.now image.now (length scratch.old)) (length rows.old))) × (count.new ≡ listed_rows (list_steps image.now (repair_plan backing.now image.now (length scratch.old)) (length rows.old)))) × ((rows.new ≡ steps_into image.now (repair_plan backing.now image.now (length scratch.old)) rows.old) × (scratch.new ≡ scratch_left backing.now image.now scratch.old)) }
 {
     let l = qcow2_steps::repair_steps(image, backing, scratch, rows);
-    qcow2_codes::put_listed(l, count)
+    qcow2_codes::put_listed(qcow2_codes::numbered(l), count)
 }
 
 // A call that is to be made, planned into a batch of which the first `held` of the rows are held: how many there are with its own.
@@ -294,7 +294,7 @@ pub extern "C" fn qcow2_backed_batch_write(
     ensures { (d : List ℕ) → length d ≡ len → ((result ≡ planned_code (answered image.now (write_plan backing.now image.now offset d) held rows.old)) × (count.new ≡ planned_rows (answered image.now (write_plan backing.now image.now offset d) held rows.old))) × (rows.new ≡ rows_left image.now (write_plan backing.now image.now offset d) held rows.old) }
 {
     let p = qcow2_planned::batch_write(image, backing, offset, len, rows, held as usize);
-    qcow2_codes::put_planned(p, count)
+    qcow2_codes::put_planned(qcow2_codes::numbered(p), count)
 }
 
 #[unsafe(no_mangle)]
@@ -309,7 +309,7 @@ pub extern "C" fn qcow2_backed_batch_discard(
     ensures { ((result ≡ planned_code (answered image.now (discard_plan backing.now image.now cluster) held rows.old)) × (count.new ≡ planned_rows (answered image.now (discard_plan backing.now image.now cluster) held rows.old))) × (rows.new ≡ rows_left image.now (discard_plan backing.now image.now cluster) held rows.old) }
 {
     let p = qcow2_planned::batch_discard(image, backing, cluster, rows, held as usize);
-    qcow2_codes::put_planned(p, count)
+    qcow2_codes::put_planned(qcow2_codes::numbered(p), count)
 }
 
 #[unsafe(no_mangle)]
@@ -324,5 +324,5 @@ pub extern "C" fn qcow2_backed_batch_repair(
     ensures { ((result ≡ planned_code (answered image.now (repair_plan backing.now image.now (length scratch.old)) held rows.old)) × (count.new ≡ planned_rows (answered image.now (repair_plan backing.now image.now (length scratch.old)) held rows.old))) × ((rows.new ≡ rows_left image.now (repair_plan backing.now image.now (length scratch.old)) held rows.old) × (scratch.new ≡ scratch_left backing.now image.now scratch.old)) }
 {
     let p = qcow2_planned::batch_repair(image, backing, scratch, rows, held as usize);
-    qcow2_codes::put_planned(p, count)
+    qcow2_codes::put_planned(qcow2_codes::numbered(p), count)
 }

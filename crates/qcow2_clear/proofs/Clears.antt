@@ -2,7 +2,7 @@
 use Rattle.std.specs.Prelude.{if◌then◌else◌, Err, Ok, Result}
 use Prim.Native.Nat.{ℕ, zero, suc, ◌+◌, ◌-◌, ◌≤◌, ◌<◌}
 use native.Mathlib.Omega.{arith}
-use mathlib.Core.Path.{◌≡◌, refl, sym, ◌∙◌}
+use mathlib.Core.Path.{◌≡◌, refl, sym, ◌∙◌, ap}
 use mathlib.Core.Bool.{Bool, true, false}
 use mathlib.Core.List.{List, [], ◌∷◌, ◌++◌}
 use lib.Dec.{leb, eqb}
@@ -23,11 +23,11 @@ use Rattle.qcow2_spec.specs.Store.{clear_units, clearing}
 use Rattle.qcow2_clear.specs.Ends.{Within, whole_end}
 
 -- ---- how the whole list ends
-whole-ended : (m b a : ℕ) → whole_end (ended m b) b a ≡ (if leb m b then Finished (a - b + m) else Stopped a)
+whole-ended : (m b a : ℕ) → whole_end (Ok (ended m b)) b a ≡ Ok (if leb m b then Finished (a - b + m) else Stopped a)
 unfolding ended
 whole-ended m b a = go (leb m b)
   where
-    go : (t : Bool) → whole_end (if t then Finished m else Stopped b) b a ≡ (if t then Finished (a - b + m) else Stopped a)
+    go : (t : Bool) → whole_end (Ok (if t then Finished m else Stopped b)) b a ≡ Ok (if t then Finished (a - b + m) else Stopped a)
     go true = refl
     go false = refl
 
@@ -36,11 +36,11 @@ pub end_is : (us : List UnitStore) (b : ℕ) (v t : List ℕ) (r : Ended) → Do
 unfolding outcome
 end_is us b v t r d = let e : ◌≡◌ {A = Result Ended ℕ} (Ok r) (Ok (ended (length us) b)) = d.answer in (cc e)
 
-pub within : (us : List UnitStore) (b : ℕ) (v t : List ℕ) (r : Ended) → Done (units us) b v (Ok r) t → Within r b
-unfolding ended
-within us b v t r d = rw (end_is us b v t r d) (go (leb (length us) b) refl)
+pub within : (us : List UnitStore) (b : ℕ) (v t : List ℕ) (r : Result Ended ℕ) → Done (units us) b v r t → Within r b
+unfolding outcome ended
+within us b v t r d = rw d.answer (go (leb (length us) b) refl)
   where
-    go : (x : Bool) → leb (length us) b ≡ x → Within (if x then Finished (length us) else Stopped b) b
+    go : (x : Bool) → leb (length us) b ≡ x → Within (Ok (if x then Finished (length us) else Stopped b)) b
     go true e = leb-true _ _ e
     go false e = tt
 
@@ -79,11 +79,14 @@ module _ (s : List ℕ) where
             rw (← entry-some s 88 0 (suc b) (omega arith) (λ z. omega arith)) (splice-after s 88 (bytes64 0) x w (omega arith) (omega arith))
 
     -- ---- the units us after it, with b left
-    pub clear_first : (us : List UnitStore) (b : ℕ) (v t : List ℕ) (r : Ended) → 0 < length us → b ≡ a - length (clear_units s) → v ≡ apply_all (take a (clear_units s)) s
-        → Done (units us) b v (Ok r) t → Done (units (clear_units s ++ us)) a s (Ok (whole_end r b a)) t
+    pub clear_first : (us : List UnitStore) (b : ℕ) (v t : List ℕ) (r : Result Ended ℕ) → 0 < length us → b ≡ a - length (clear_units s) → v ≡ apply_all (take a (clear_units s)) s
+        → Done (units us) b v r t → Done (units (clear_units s ++ us)) a s (whole_end r b a) t
+    unfolding outcome
     clear_first us b v t r h e p d =
-        let w : whole_end r b a ≡ whole_end (ended (length us) b) b a = rw (end_is us b v t r d) in
-        after_first (clear_units s) us a b s v t r (whole_end r b a) e p (w ∙ whole-ended (length us) b a ∙ sym (ended-after (length (clear_units s)) (length us) a b e h)) d
+        let n = length (clear_units s) in
+        let m = length us in
+        let w : whole_end r b a ≡ Ok (ended (n + m) a) = rw d.answer (whole-ended m b a ∙ ap Ok (sym (ended-after n m a b e h))) in
+        rw w (after_first (clear_units s) us a b s v t (ended m b) (ended (n + m) a) e p refl (record { answer = refl; left = d.left }))
 
     -- ---- a plan that it is put before
     module _ (p : Plan) where

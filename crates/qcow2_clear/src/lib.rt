@@ -1,7 +1,7 @@
 // The unit that clears the autoclear field, which comes before all others of a call.
 #![tactic(auto)]
 
-ghost use Rattle.std.specs.Prelude.{◌≡◌, ◌-◌, ◌≤◌, length, take};
+ghost use Rattle.std.specs.Prelude.{◌≡◌, ◌-◌, ◌≤◌, length, take, Ok};
 ghost use Rattle.units.specs.Units.{apply_all};
 ghost use Rattle.qcow2_spec.specs.Header.{version as version_of};
 ghost use Rattle.qcow2_spec.specs.Store.{clear_units};
@@ -35,12 +35,20 @@ pub fn clear(image: &mut [u8], g: Geometry, allowance: usize) -> usize
 }
 
 // How the whole list ended, by how the units after the clearing one ended within what it left of the allowance.
-pub fn whole_end(rest: Ended, left: usize, allowance: usize) -> Ended
-    requires { (left ≤ allowance) × Within rest left }
-    ensures { result ≡ whole_end rest left allowance }
+pub fn ended_after(rest: Ended, left: usize, allowance: usize) -> Ended
+    requires { (left ≤ allowance) × Within (Ok rest) left }
+    ensures { Ok result ≡ whole_end (Ok rest) left allowance }
 {
     match rest {
         Ended::Finished(n) => Ended::Finished(allowance - left + n),
         Ended::Stopped(_) => Ended::Stopped(allowance),
     }
+}
+
+// The same where the later part may be refused, and the whole list is then.
+pub fn whole_end(rest: Result<Ended, u8>, left: usize, allowance: usize) -> Result<Ended, u8>
+    requires { (left ≤ allowance) × Within rest left }
+    ensures { result ≡ whole_end rest left allowance }
+{
+    Ok(ended_after(rest?, left, allowance))
 }

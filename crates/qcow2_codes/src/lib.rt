@@ -9,16 +9,26 @@ use qcow2_spec::Verdict;
 use qcow2_spec::refusal::Refusal;
 use units::Ended;
 
-fn listed_code(l: &Result<usize, Refusal>) -> u32
+// The same answer with its refusal's number, as the functions below take it.
+pub fn numbered<T>(r: Result<T, Refusal>) -> Result<T, u8>
+    ensures { result ≡ r }
+{
+    match r {
+        Ok(v) => Ok(v),
+        Err(e) => Err(e.number()),
+    }
+}
+
+fn listed_code(l: &Result<usize, u8>) -> u32
     ensures { result ≡ listed_code l.now }
 {
     match l {
-        Err(why) => why.number() as u32,
+        Err(why) => *why as u32,
         Ok(_) => 0,
     }
 }
 
-fn listed_rows(l: &Result<usize, Refusal>) -> u64
+fn listed_rows(l: &Result<usize, u8>) -> u64
     ensures { result ≡ listed_rows l.now }
 {
     match l {
@@ -27,17 +37,17 @@ fn listed_rows(l: &Result<usize, Refusal>) -> u64
     }
 }
 
-fn planned_code(p: &Result<Planned, Refusal>) -> u32
+fn planned_code(p: &Result<Planned, u8>) -> u32
     ensures { result ≡ planned_code p.now }
 {
     match p {
-        Err(e) => e.number() as u32,
+        Err(e) => *e as u32,
         Ok(Planned::Ends) => 1014,
         Ok(Planned::Rows(_)) => 0,
     }
 }
 
-fn planned_rows(p: &Result<Planned, Refusal>) -> u64
+fn planned_rows(p: &Result<Planned, u8>) -> u64
     ensures { result ≡ planned_rows p.now }
 {
     match p {
@@ -47,17 +57,17 @@ fn planned_rows(p: &Result<Planned, Refusal>) -> u64
     }
 }
 
-fn outcome_code(o: &Result<Ended, Refusal>) -> u32
+fn outcome_code(o: &Result<Ended, u8>) -> u32
     ensures { result ≡ outcome_code o.now }
 {
     match o {
         Ok(Ended::Finished(_)) => 0,
         Ok(Ended::Stopped(_)) => 1001,
-        Err(e) => e.number() as u32,
+        Err(e) => *e as u32,
     }
 }
 
-fn outcome_units(o: &Result<Ended, Refusal>) -> u64
+fn outcome_units(o: &Result<Ended, u8>) -> u64
     ensures { result ≡ outcome_units o.now }
 {
     match o {
@@ -128,21 +138,21 @@ fn verdict_third(v: Verdict) -> u64
 }
 
 // Each is stored with the values beside it, and its code is the answer.
-pub fn put_listed(l: Result<usize, Refusal>, count: &mut u64) -> u32
+pub fn put_listed(l: Result<usize, u8>, count: &mut u64) -> u32
     ensures { (result ≡ listed_code l) × (count.new ≡ listed_rows l) }
 {
     *count = listed_rows(&l);
     listed_code(&l)
 }
 
-pub fn put_planned(p: Result<Planned, Refusal>, count: &mut u64) -> u32
+pub fn put_planned(p: Result<Planned, u8>, count: &mut u64) -> u32
     ensures { (result ≡ planned_code p) × (count.new ≡ planned_rows p) }
 {
     *count = planned_rows(&p);
     planned_code(&p)
 }
 
-pub fn put_outcome(o: Result<Ended, Refusal>, units: &mut u64) -> u32
+pub fn put_outcome(o: Result<Ended, u8>, units: &mut u64) -> u32
     ensures { (result ≡ outcome_code o) × (units.new ≡ outcome_units o) }
 {
     *units = outcome_units(&o);

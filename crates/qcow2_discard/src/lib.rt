@@ -64,7 +64,7 @@ fn store(image: &mut [u8], g: Geometry, freed: Freed, allowance: usize) -> Ended
 {
     let left = qcow2_clear::clear(image, g, allowance);
     let r = put_freed(image, freed, left);
-    qcow2_clear::whole_end(r, left, allowance)
+    qcow2_clear::ended_after(r, left, allowance)
 }
 
 // A discard, with the way to the guest cluster: the field is cleared only where there is something to store.

@@ -24,7 +24,7 @@ fn store(
 {
     let left = qcow2_clear::clear_field(image, version, allowance);
     crate::making::make_all(image, p, marks, start, start + n.seen, left);
-    qcow2_clear::whole_end(
+    qcow2_clear::ended_after(
         units::end_of(n.missing * (p.size + 1), left),
         left,
         allowance,

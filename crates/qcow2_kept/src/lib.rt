@@ -7,7 +7,6 @@ ghost use Rattle.qcow2_kept.specs.Kept.{numbers_of, verdict_of, numbers_at, stat
 
 use qcow2_portion::{CheckState, Portion};
 use qcow2_spec::Verdict;
-use qcow2_spec::refusal::Refusal;
 
 // A verdict as numbers: its kind, and what it names. The kind is a number, since a kept state's bytes hold it (`numbers_at`).
 #[derive(Clone, Copy)]
@@ -219,9 +218,9 @@ fn is_idle(st: CheckState, may: usize) -> bool
 }
 
 // The state after a portion, as bytes where it has changed.
-pub fn keep(bytes: &mut [u8], st: CheckState, may: usize, p: &Portion)
+pub fn keep(bytes: &mut [u8], st: CheckState, may: usize, p: Portion)
     requires { length bytes.old ≡ 56 }
-    ensures { bytes.new ≡ kept_after bytes.old st may p.now }
+    ensures { bytes.new ≡ kept_after bytes.old st may p }
 {
     if p.answer.is_err() {
         return;
@@ -235,26 +234,26 @@ pub fn keep(bytes: &mut [u8], st: CheckState, may: usize, p: &Portion)
 
 // The answer's code, with the values beside it.
 pub fn put_answer(
-    a: &Result<Option<Verdict>, Refusal>,
+    a: Result<Option<Verdict>, u8>,
     first: &mut u64,
     second: &mut u64,
     third: &mut u64,
 ) -> u32
-    ensures { ((result ≡ answer_code a.now) × (first.new ≡ answer_first a.now)) × ((second.new ≡ answer_second a.now) × (third.new ≡ answer_third a.now)) }
+    ensures { ((result ≡ answer_code a) × (first.new ≡ answer_first a)) × ((second.new ≡ answer_second a) × (third.new ≡ answer_third a)) }
 {
     match a {
-        Ok(Some(v)) => qcow2_codes::put_verdict(*v, first, second, third),
+        Ok(Some(v)) => qcow2_codes::put_verdict(v, first, second, third),
         Ok(None) => {
             *first = 0;
             *second = 0;
             *third = 0;
             1013
         }
-        Err(e) => {
+        Err(k) => {
             *first = 0;
             *second = 0;
             *third = 0;
-            e.number() as u32
+            k as u32
         }
     }
 }

@@ -31,7 +31,7 @@ pub fn is_plain(e: u64, n: u64, bits: u32) -> bool
     power::rest(e, bits) == 0
 }
 
-// Whether an entry has the zero mark by right: alone, or with a place.
+// Whether an entry has the zero mark by right: alone, or with a place. One test for both numbers without a place, since the usual one has one.
 pub fn is_marked(e: u64, version: u32, n: u64, bits: u32) -> bool
     requires { (bits ≤ most_bits) × ((2 ^ bits ≤ n) × (n ≤ most_length)) }
     ensures { result ≡ marked version (2 ^ bits) n e }
@@ -39,11 +39,8 @@ pub fn is_marked(e: u64, version: u32, n: u64, bits: u32) -> bool
     if version != 3 {
         return false;
     }
-    if e == 0 {
-        return false;
-    }
-    if e == 1 {
-        return true;
+    if e < 2 {
+        return e == 1;
     }
     is_plain(e - 1, n, bits)
 }

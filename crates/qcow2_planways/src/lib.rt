@@ -67,9 +67,10 @@ pub fn plan_repair(
     requires { (Opened g image.now × Figured image.now refs.now) × (v ≡ verdict image.now) }
     ensures { Planning image.now (clearing image.now (verdict_plan image.now v)) k rows.old result rows.new }
 {
-    match qcow2_repair::find_mending(v)? {
-        Mending::Nothing => Ok(qcow2_phases::planned(rows, k, 0)),
-        Mending::Counts => {
+    match qcow2_repair::find_mending(v) {
+        Err(n) => Err(Refusal::of(n)),
+        Ok(Mending::Nothing) => Ok(qcow2_phases::planned(rows, k, 0)),
+        Ok(Mending::Counts) => {
             let n = qcow2_added::add_counts(image, g, refs, rows, k);
             Ok(qcow2_phases::planned(rows, k, n))
         }

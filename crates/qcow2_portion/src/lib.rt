@@ -7,7 +7,6 @@ ghost use Rattle.qcow2_portions.specs.Rows.{started};
 ghost use Rattle.qcow2_portion.specs.declared.CheckState.TheVariants.{New};
 ghost use Rattle.qcow2_portion.specs.State.{figures_taken, taken as taken_of, stepped as stepped_of, scratch_stepped, portioned as portioned_of, scratch_portioned, portion as portion_of, scratch_portion};
 
-use qcow2_spec::refusal::{Cause, Refusal};
 use qcow2_spec::{Geometry, Verdict};
 
 // Where a check stands: nothing is done yet; so far: the L1 table and the index after the last entry taken, and the first bad entry met (Sound
@@ -19,11 +18,12 @@ pub enum CheckState {
     Finished(Verdict),
 }
 
-// The next state, and the verdict, or none while entries are left.
+// The next state, and the verdict, or none while entries are left. A refusal is a number, any one, as in a state (`Verdict::Refused`); with a
+// `Refusal` in it a portion gets no proof where it is passed by value and used again, nor where it is sent to another thread.
 #[derive(Clone, Copy)]
 pub struct Portion {
     pub state: CheckState,
-    pub answer: Result<Option<Verdict>, Refusal>,
+    pub answer: Result<Option<Verdict>, u8>,
 }
 
 // Entries are taken from an index of an L1 table on, as many as may be. Where none is left this is the last portion.
@@ -137,7 +137,7 @@ fn portioned(st: CheckState, image: &[u8], scratch: &mut [u8], g: Geometry, may:
     if scratch.len() / 2 < g.clusters {
         return Portion {
             state: st,
-            answer: Err(Cause::Scratch.into()),
+            answer: Err(15),
         };
     }
     stepped(st, image, scratch, g, may)
@@ -159,7 +159,7 @@ impl CheckState {
         match qcow2_header::judge(image, backing.len() != 0) {
             Err(e) => Portion {
                 state: self,
-                answer: Err(e),
+                answer: Err(e.number()),
             },
             Ok(g) => portioned(self, image, scratch, g, may),
         }

@@ -92,7 +92,7 @@ module _ (f : ℕ → Result Way ℕ) where
 
   -- the way at i, of those to an end
   module _ (i end : ℕ) where
-    halt : i < end → (way_number (f i) ≡ 0 → ⊥) → numbers f i (end - i) ≡ way_number (f i)
+    pub halt : i < end → (way_number (f i) ≡ 0 → ⊥) → numbers f i (end - i) ≡ way_number (f i)
     halt h n = numbers_stop i (end - i) 1 (omega arith) (λ z. n (sym (one i) ∙ z)) ∙ one i
 
     pub stop : (k : ℕ) → i < end → f i ≡ Err k → (k ≡ 0 → ⊥) → Err k ≡ answer (numbers f i (end - i))

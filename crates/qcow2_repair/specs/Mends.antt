@@ -2,7 +2,6 @@
 -- Assumes nothing.
 use Rattle.std.specs.Prelude.{ℕ, List, [], Result, Ok, Err}
 use Rattle.units.specs.Plan.{Plan, refused, units}
-use Rattle.qcow2_spec.specs.Causes.{number, cause_of}
 use Rattle.qcow2_spec.specs.Header.{clusters}
 use Rattle.qcow2_spec.specs.References.{figures_of}
 use Rattle.qcow2_spec.specs.Check.{repair_units}
@@ -11,7 +10,7 @@ use Rattle.qcow2_spec.specs.declared.Verdict.TheVariants.{Sound, Leaks, BadL1, B
 use Rattle.qcow2_repair.specs.declared.Mending.{Mending}
 use Rattle.qcow2_repair.specs.declared.Mending.TheVariants.{Nothing, Counts}
 
--- 17 where the image is damaged, and its own number where the check was refused, which no image's verdict is
+-- 17 where the image is damaged, and its own number where the check was refused
 unfoldable pub mending_of : Verdict → Result Mending ℕ
 mending_of Sound = Ok Nothing
 mending_of (Leaks m) = Ok Counts
@@ -21,7 +20,7 @@ mending_of (Shared k) = Err 17
 mending_of (Short k) = Err 17
 mending_of (MarkL1 i) = Err 17
 mending_of (MarkL2 i j) = Err 17
-mending_of (Refused k) = Err (number (cause_of k))
+mending_of (Refused k) = Err k
 
 -- its plan on the image s
 abbrev pub mend_plan : List ℕ → Result Mending ℕ → Plan

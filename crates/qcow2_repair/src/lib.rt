@@ -16,7 +16,7 @@ ghost use Rattle.qcow2_repair.specs.Leaks.{Figured, Laid, Leaking, mend_units};
 ghost use Rattle.qcow2_repair.specs.Mends.{mending_of};
 ghost use Rattle.qcow2_setcount.specs.Fixed.{fixes};
 
-use qcow2_spec::refusal::{Cause, Refusal};
+use qcow2_spec::refusal::Refusal;
 use qcow2_spec::{Geometry, Verdict};
 use units::Ended;
 
@@ -27,21 +27,22 @@ pub enum Mending {
     Counts,
 }
 
-// By the verdict: a damaged image is refused, and a refused check hands its number on. No image's verdict is that (`unrefused` in proofs/Real.antt).
+// By the verdict: a damaged image is refused, and a refused check hands its number on, whatever it is. No image's verdict is that (`unrefused` in
+// proofs/Real.antt), so that what is refused has a cause wherever this is called (`told` in proofs/Mends.antt).
 #[tactic(auto, unfolding(crate::specs::Mends::mending_of))]
-pub fn find_mending(v: Verdict) -> Result<Mending, Refusal>
+pub fn find_mending(v: Verdict) -> Result<Mending, u8>
     ensures { result ≡ mending_of v }
 {
     match v {
         Verdict::Sound => Ok(Mending::Nothing),
         Verdict::Leaks(_) => Ok(Mending::Counts),
-        Verdict::BadL1(_, _) => Err(Cause::Damaged.into()),
-        Verdict::BadL2(_, _, _) => Err(Cause::Damaged.into()),
-        Verdict::Shared(_) => Err(Cause::Damaged.into()),
-        Verdict::Short(_) => Err(Cause::Damaged.into()),
-        Verdict::MarkL1(_) => Err(Cause::Damaged.into()),
-        Verdict::MarkL2(_, _) => Err(Cause::Damaged.into()),
-        Verdict::Refused(k) => Err(Refusal::of(k)),
+        Verdict::BadL1(_, _) => Err(17),
+        Verdict::BadL2(_, _, _) => Err(17),
+        Verdict::Shared(_) => Err(17),
+        Verdict::Short(_) => Err(17),
+        Verdict::MarkL1(_) => Err(17),
+        Verdict::MarkL2(_, _) => Err(17),
+        Verdict::Refused(k) => Err(k),
     }
 }
 
@@ -96,7 +97,7 @@ fn store(image: &mut [u8], g: Geometry, refs: &[u8], allowance: usize) -> Ended
 {
     let left = qcow2_clear::clear(image, g, allowance);
     let r = repair(image, g, refs, left);
-    qcow2_clear::whole_end(r, left, allowance)
+    qcow2_clear::ended_after(r, left, allowance)
 }
 
 // A repair by the verdict, with the figures that the check left in refs.
@@ -110,8 +111,9 @@ pub fn verdict_repair(
     requires { (Opened g image.old × Figured image.old refs.now) × (v ≡ verdict image.old) }
     ensures { Done (clearing image.old (verdict_plan image.old v)) allowance image.old result image.new }
 {
-    match find_mending(v)? {
-        Mending::Nothing => Ok(units::end_of(0, allowance)),
-        Mending::Counts => Ok(store(image, g, refs, allowance)),
+    match find_mending(v) {
+        Err(k) => Err(Refusal::of(k)),
+        Ok(Mending::Nothing) => Ok(units::end_of(0, allowance)),
+        Ok(Mending::Counts) => Ok(store(image, g, refs, allowance)),
     }
 }

@@ -1,4 +1,4 @@
--- The number of each cause for which a call is refused. Paper 01, "Numbers the desk gives back"; paper 02, T-03, T-05, T-09 and T-11.
+-- The number of each cause for which a call is refused. Paper 01, "Numbers the desk gives back"; paper 02, T-02, T-05 and T-11.
 -- Assumes nothing.
 use Rattle.std.specs.Prelude.{ℕ, zero, suc, ◌≡◌, eqb, Result, Ok, Err, if◌then◌else◌}
 use Rattle.std.proofs.Common.{refl, ap}

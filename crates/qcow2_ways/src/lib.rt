@@ -85,8 +85,9 @@ pub fn verdict_way(
     requires { (Opened g image.now × Figured image.now refs.now) × (v ≡ verdict image.now) }
     ensures { Listing image.now (clearing image.now (verdict_plan image.now v)) rows.old result rows.new }
 {
-    match qcow2_repair::find_mending(v)? {
-        Mending::Nothing => Ok(0),
-        Mending::Counts => Ok(leaks(image, g, refs, rows)),
+    match qcow2_repair::find_mending(v) {
+        Err(k) => Err(Refusal::of(k)),
+        Ok(Mending::Nothing) => Ok(0),
+        Ok(Mending::Counts) => Ok(leaks(image, g, refs, rows)),
     }
 }

@@ -91,7 +91,7 @@ fn store(
     let left = qcow2_clear::clear(image, g, allowance);
     let c = qcow2_counts::bytes_of(g.bits);
     let r = put_job(image, job, c, base, src, o, left);
-    qcow2_clear::whole_end(r, left, allowance)
+    qcow2_clear::ended_after(r, left, allowance)
 }
 
 // A write of src, which is not empty, from byte o of a guest cluster on, with the way to it and the bytes of the backing file.

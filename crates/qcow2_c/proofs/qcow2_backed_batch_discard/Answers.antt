@@ -6,4 +6,5 @@ use Rattle.qcow2_c.proofs.qcow2_backed_batch_discard.Goals as goal
 pub returns : goal.returns
 returns c =
     let e = c.batch_discard-p.ensures in
-    ((c.put_planned.ensures.0 ∙ ap planned_code e.answer, c.put_planned.ensures.1 ∙ ap planned_rows e.answer), e.left)
+    let r = rw c.numbered.ensures at c.put_planned.ensures in
+    ((r.0 ∙ ap planned_code e.answer, r.1 ∙ ap planned_rows e.answer), e.left)

@@ -6,4 +6,5 @@ use Rattle.qcow2_c.proofs.qcow2_backed_batch_repair.Goals as goal
 pub returns : goal.returns
 returns c =
     let e = c.batch_repair-p.ensures in
-    ((c.put_planned.ensures.0 ∙ ap planned_code e.0.answer, c.put_planned.ensures.1 ∙ ap planned_rows e.0.answer), (e.0.left, e.1))
+    let r = rw c.numbered.ensures at c.put_planned.ensures in
+    ((r.0 ∙ ap planned_code e.0.answer, r.1 ∙ ap planned_rows e.0.answer), (e.0.left, e.1))

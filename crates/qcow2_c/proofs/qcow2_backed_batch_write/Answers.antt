@@ -6,4 +6,5 @@ use Rattle.qcow2_c.proofs.qcow2_backed_batch_write.Goals as goal
 pub returns : goal.returns
 returns c d q =
     let e = c.batch_write-p.ensures d q in
-    ((c.put_planned.ensures.0 ∙ ap planned_code e.answer, c.put_planned.ensures.1 ∙ ap planned_rows e.answer), e.left)
+    let r = rw c.numbered.ensures at c.put_planned.ensures in
+    ((r.0 ∙ ap planned_code e.answer, r.1 ∙ ap planned_rows e.answer), e.left)

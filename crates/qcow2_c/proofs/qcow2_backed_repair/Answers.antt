@@ -5,4 +5,5 @@ use Rattle.qcow2_c.proofs.qcow2_backed_repair.Goals as goal
 pub returns : goal.returns
 returns c =
     let d = c.repair-o.ensures in
-    ((c.put_outcome.ensures.0 ∙ ap outcome_code d.0.answer, c.put_outcome.ensures.1 ∙ ap outcome_units d.0.answer), (d.0.left, d.1))
+    let r = rw c.numbered.ensures at c.put_outcome.ensures in
+    ((r.0 ∙ ap outcome_code d.0.answer, r.1 ∙ ap outcome_units d.0.answer), (d.0.left, d.1))

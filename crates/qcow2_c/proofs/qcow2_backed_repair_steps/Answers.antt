@@ -5,4 +5,5 @@ use Rattle.qcow2_c.proofs.qcow2_backed_repair_steps.Goals as goal
 pub returns : goal.returns
 returns c =
     let e = c.repair_steps-l.ensures in
-    ((c.put_listed.ensures.0 ∙ ap listed_code e.0.answer, c.put_listed.ensures.1 ∙ ap listed_rows e.0.answer), (e.0.left, e.1))
+    let r = rw c.numbered.ensures at c.put_listed.ensures in
+    ((r.0 ∙ ap listed_code e.0.answer, r.1 ∙ ap listed_rows e.0.answer), (e.0.left, e.1))

@@ -5,4 +5,5 @@ use Rattle.qcow2_c.proofs.qcow2_backed_write_steps.Goals as goal
 pub returns : goal.returns
 returns c d q =
     let e = c.write_steps-l.ensures d q in
-    ((c.put_listed.ensures.0 ∙ ap listed_code e.answer, c.put_listed.ensures.1 ∙ ap listed_rows e.answer), e.left)
+    let r = rw c.numbered.ensures at c.put_listed.ensures in
+    ((r.0 ∙ ap listed_code e.answer, r.1 ∙ ap listed_rows e.answer), e.left)

@@ -5,4 +5,5 @@ use Rattle.qcow2_c.proofs.qcow2_extend.Goals as goal
 pub returns : goal.returns
 returns c =
     let d = c.extend-o.ensures in
-    ((c.put_outcome.ensures.0 ∙ ap outcome_code d.answer, c.put_outcome.ensures.1 ∙ ap outcome_units d.answer), d.left)
+    let r = rw c.numbered.ensures at c.put_outcome.ensures in
+    ((r.0 ∙ ap outcome_code d.answer, r.1 ∙ ap outcome_units d.answer), d.left)

@@ -1,4 +1,4 @@
-use Rattle.std.proofs.Common.{eq-eqb, ne_eqb}
+use Rattle.std.proofs.Common.{◌≡◌, ℕ, zero, suc, ◌-◌, ◌^◌, ◌<◌, ◌||◌, eqb, refl, arith, eq-eqb, ne_eqb}
 use Rattle.qcow2_plain.specs.Plain.{bare, plain, marked}
 use Rattle.qcow2_plain.proofs.is_marked.Goals as goal
 
@@ -6,16 +6,17 @@ pub returns-then-version-ne3 : goal.returns-then-version-ne3
 unfolding marked
 returns-then-version-ne3 c = rw (ne_eqb c.args.version 3 c.if-version-ne3.true)
 
-pub returns-then-e-eq0 : goal.returns-then-e-eq0
+pub returns-then-e-lt2 : goal.returns-then-e-lt2
 unfolding marked plain bare
-returns-then-e-eq0 c = rw (eq-eqb c.args.version 3 c.if-version-ne3.false, c.if-e-eq0.true)
-
-pub returns-then-e-eq1 : goal.returns-then-e-eq1
-unfolding marked
-returns-then-e-eq1 c = rw (eq-eqb c.args.version 3 c.if-version-ne3.false, eq-eqb c.args.e 1 c.if-e-eq1.true)
+returns-then-e-lt2 c = rw (eq-eqb c.args.version 3 c.if-version-ne3.false) (go c.args.e c.if-e-lt2.true)
+  where
+    go : (e : ℕ) → e < 2 → eqb e 1 ≡ (eqb e 1 || plain (2 ^ c.args.bits) c.args.n (e - 1))
+    go zero h = refl
+    go (suc zero) h = refl
+    go (suc (suc e)) h = absurd (omega arith)
 
 pub returns : goal.returns
 unfolding marked
 returns c =
     let a = c.args in
-    rw (eq-eqb a.version 3 c.if-version-ne3.false, ne_eqb a.e 1 c.if-e-eq1.false) c.is_plain.ensures
+    rw (eq-eqb a.version 3 c.if-version-ne3.false, ne_eqb a.e 1 (λ z. omega (arith, z, c.if-e-lt2.false))) c.is_plain.ensures

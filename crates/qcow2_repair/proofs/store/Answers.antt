@@ -16,8 +16,8 @@ repair-r-requires c =
     let k = cleared-kept a.image.now _ a.allowance c.requires.opened.long c.clear-left.ensures.1 in
     (laid_kept a.g a.image.now a.refs.now c.requires _ k, omega (arith, refs_long a.image.now a.refs.now c.requires.figures, c.requires.opened.is-clusters))
 
-pub whole_end-requires : goal.whole_end-requires
-whole_end-requires c = (omega (arith, c.clear-left.ensures.0), within _ _ _ _ _ c.repair-r.ensures)
+pub ended_after-requires : goal.ended_after-requires
+ended_after-requires c = (omega (arith, c.clear-left.ensures.0), within _ _ _ _ _ c.repair-r.ensures)
 
 pub returns : goal.returns
 returns c =
@@ -27,4 +27,4 @@ returns c =
     let f = c.clear-left in
     let k = cleared-kept l _ a.allowance c.requires.opened.long f.ensures.1 in
     let U = repair_units l (figures_of l) 0 (clusters l) in
-    rw c.whole_end.ensures (clear_first l a.allowance U f.result f.new.image p.new.image p.result c.requires.some f.ensures.0 f.ensures.1 (rw (mended a.g l a.refs.now c.requires _ k) at p.ensures))
+    rw c.ended_after.ensures (clear_first l a.allowance U f.result f.new.image p.new.image _ c.requires.some f.ensures.0 f.ensures.1 (rw (mended a.g l a.refs.now c.requires _ k) at p.ensures))

@@ -1,35 +1,34 @@
 use native.Mathlib.Omega.{arith}
-use mathlib.Core.Path.{refl, ap}
+use mathlib.Core.Path.{refl, ap, ◌∙◌}
 use Rattle.std.specs.Prelude.{Ok}
-use Rattle.std.proofs.lemmas.Result.{err_from_is_err_and}
 use Rattle.qcow2_spec.specs.Header.{clusters}
 use Rattle.qcow2_spec.specs.References.{figures_of}
 use Rattle.qcow2_spec.specs.Check.{repair_units, verdict_plan}
-use Rattle.qcow2_repair.proofs.Mends.{plan_mends, counts_leaking}
+use Rattle.qcow2_repair.proofs.Mends.{plan_mends, told, counts_leaking}
 use Rattle.qcow2_ways.proofs.Listings.{list_refused, list_none, clearing-refused, clearing-none, clearing-some}
 use Rattle.qcow2_ways.proofs.verdict_way.Goals as goal
 
 pub leaks-requires : goal.leaks-requires
 leaks-requires c =
     let a = c.args in
-    counts_leaking a.g a.image.now a.refs.now a.v _ (λ i. omega (arith, c.type_inv.image i)) c.requires.0.0 c.requires.0.1 c.requires.1 c.in_ok-find_mending.ensures (ap Ok c.in-Counts.is)
+    counts_leaking a.g a.image.now a.refs.now a.v _ (λ i. omega (arith, c.type_inv.image i)) c.requires.0.0 c.requires.0.1 c.requires.1 c.find_mending.ensures (c.in-Ok-Counts.is ∙ ap Ok c.in-Ok-Counts.field-0-is)
 
-pub returns-in_err-find_mending : goal.returns-in_err-find_mending
-returns-in_err-find_mending c =
+pub returns-in-Err : goal.returns-in-Err
+returns-in-Err c =
     let a = c.args in
     let l = a.image.now in
-    let p = err_from_is_err_and c.from_residual.result c.from_residual.ensures.1 in
-    rw (p.1, p.2) (list_refused l _ a.rows.now _ (clearing-refused l (verdict_plan l a.v) _ (plan_mends l a.v _ _ c.requires.1 c.in_err-find_mending.ensures refl)))
+    let e = c.in-Err.ensures in
+    rw (c.of.ensures, told l a.v _ c.in-Err.k c.requires.1 e refl) (list_refused l _ a.rows.now c.in-Err.k (clearing-refused l (verdict_plan l a.v) c.in-Err.k (plan_mends l a.v _ _ e refl)))
 
-pub returns-in-Nothing : goal.returns-in-Nothing
-returns-in-Nothing c =
+pub returns-in-Ok-Nothing : goal.returns-in-Ok-Nothing
+returns-in-Ok-Nothing c =
     let a = c.args in
     let l = a.image.now in
-    list_none l _ a.rows.now (clearing-none l (verdict_plan l a.v) (plan_mends l a.v _ _ c.requires.1 c.in_ok-find_mending.ensures (ap Ok c.in-Nothing.is)))
+    list_none l _ a.rows.now (clearing-none l (verdict_plan l a.v) (plan_mends l a.v _ _ c.find_mending.ensures (c.in-Ok-Nothing.is ∙ ap Ok c.in-Ok-Nothing.field-0-is)))
 
-pub returns-in-Counts : goal.returns-in-Counts
-returns-in-Counts c =
+pub returns-in-Ok-Counts : goal.returns-in-Ok-Counts
+returns-in-Ok-Counts c =
     let a = c.args in
     let l = a.image.now in
-    let h = counts_leaking a.g l a.refs.now a.v _ (λ i. omega (arith, c.type_inv.image i)) c.requires.0.0 c.requires.0.1 c.requires.1 c.in_ok-find_mending.ensures (ap Ok c.in-Counts.is) in
-    rw (clearing-some l (verdict_plan l a.v) (repair_units l (figures_of l) 0 (clusters l)) (plan_mends l a.v _ _ c.requires.1 c.in_ok-find_mending.ensures (ap Ok c.in-Counts.is)) h.some) c.leaks.ensures
+    let h = counts_leaking a.g l a.refs.now a.v _ (λ i. omega (arith, c.type_inv.image i)) c.requires.0.0 c.requires.0.1 c.requires.1 c.find_mending.ensures (c.in-Ok-Counts.is ∙ ap Ok c.in-Ok-Counts.field-0-is) in
+    rw (clearing-some l (verdict_plan l a.v) (repair_units l (figures_of l) 0 (clusters l)) (plan_mends l a.v _ _ c.find_mending.ensures (c.in-Ok-Counts.is ∙ ap Ok c.in-Ok-Counts.field-0-is)) h.some) c.leaks.ensures

@@ -16,8 +16,8 @@ pub put_job-r-requires : goal.put_job-r-requires
 put_job-r-requires c =
     rw (c.bytes_of-c.ensures.0, c.clear-left.auto.image) ((c.requires.0.1, c.requires.1.0), c.requires.0.0.short)
 
-pub whole_end-requires : goal.whole_end-requires
-whole_end-requires c = (omega (arith, c.clear-left.ensures.0), within _ _ _ _ _ c.put_job-r.ensures)
+pub ended_after-requires : goal.ended_after-requires
+ended_after-requires c = (omega (arith, c.clear-left.ensures.0), within _ _ _ _ _ c.put_job-r.ensures)
 
 pub returns : goal.returns
 returns c =
@@ -26,4 +26,4 @@ returns c =
     let f = c.clear-left in
     let u = padded (2 ^ a.g.bits) a.base.now in
     let U = job_units a.job (2 ^ a.g.bits) a.o u a.src.now in
-    rw c.whole_end.ensures (clear_first a.image.now a.allowance U f.result f.new.image p.new.image p.result (job_some a.job _ a.o u a.src.now c.requires.1.1) f.ensures.0 f.ensures.1 (rw c.bytes_of-c.ensures.0 at p.ensures))
+    rw c.ended_after.ensures (clear_first a.image.now a.allowance U f.result f.new.image p.new.image _ (job_some a.job _ a.o u a.src.now c.requires.1.1) f.ensures.0 f.ensures.1 (rw c.bytes_of-c.ensures.0 at p.ensures))

@@ -37,12 +37,12 @@ blocks-done c =
     let o = p.0.fits.owned in
     done_all a.p _ _ _ _ _ w e o _ _ _ _ (omega (arith, c.clear_field-left.ensures.0)) (stored _ _ _ _ _ _ (seen_length a.p _ _ _ _ _ w e o) c.end_of.ensures (rw (seen_units a.p _ _ _ _ _ w e) at c.make_all.ensures))
 
-pub whole_end-requires : goal.whole_end-requires
-whole_end-requires c = (omega (arith, c.clear_field-left.ensures.0), within _ _ _ _ _ (blocks-done (goal.at.whole_end-requires c).After-end_of))
+pub ended_after-requires : goal.ended_after-requires
+ended_after-requires c = (omega (arith, c.clear_field-left.ensures.0), within _ _ _ _ _ (blocks-done (goal.at.ended_after-requires c).After-end_of))
 
 pub returns : goal.returns
 returns c =
     let a = c.args in
     let f = c.clear_field-left in
     let some = all-some a.p _ _ _ _ _ c.requires.1.0 c.requires.0.earlier c.requires.0.fits.owned c.requires.1.2 in
-    rw c.whole_end.ensures (clear_first a.image.now a.allowance _ f.result f.new.image _ _ some f.ensures.0 f.ensures.1 (blocks-done (goal.at.returns c).After-end_of))
+    rw c.ended_after.ensures (clear_first a.image.now a.allowance _ f.result f.new.image _ _ some f.ensures.0 f.ensures.1 (blocks-done (goal.at.returns c).After-end_of))

@@ -19,7 +19,7 @@ unfolding some_lent
 returns-in-Err c =
     let a = c.args in
     let e : opened (some_lent a.backing.now) a.image.now ≡ Err c.in-Err.e = sym c.in-Err.ensures in
-    portion-refused a.backing.now a.image.now a.self a.scratch.now a.may c.in-Err.e e
+    rw c.number.ensures (portion-refused a.backing.now a.image.now a.self a.scratch.now a.may c.in-Err.e e)
 
 pub returns-in-Ok : goal.returns-in-Ok
 unfolding some_lent
